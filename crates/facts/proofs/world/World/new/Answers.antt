@@ -16,5 +16,5 @@ pub returns : need.returns
 returns c =
     let told = c .args .facts .now in
     let at : (k : ℕ) → getD (c .loop-i .all) k false ≡ getD told k false =
-        λ k. ⊎-elim (λ l. c .loop-i .inv .1 k l) (λ l. c .loop-i .inv .2 k l ∙ sym (getD-past told k false (omega arith))) (cases-lt k (c .loop-i .i)) in
+    λ k. ⊎-elim (λ l. c .loop-i .inv .1 k l) (λ l. c .loop-i .inv .2 k l ∙ sym (getD-past told k false (omega arith))) (cases-lt k (c .loop-i .i)) in
     record { cases = (c .if-count-gt-MAX-FACTS .left, refl, λ d k. at k d) }

@@ -1,0 +1,44 @@
+-- What the check of a list answers, from its verdict and the world that comes with it.
+use mathlib.Core.Path.{_≡_, sym, ap, subst}
+use Prim.Native.Nat.{_≤_}
+use native.Mathlib.Omega.{arith}
+use lib.ListN.{length}
+use Rattle.std.specs.declared.option.Option.the-variants.{None}
+use Rattle.facts.specs.declared.world.World.{World}
+use Rattle.facts.specs.Models.{seen}
+use Rattle.facts.specs.Words.{Exactly}
+use Rattle.lists.specs.declared.failure.Verdict.{Verdict}
+use Rattle.lists.specs.declared.failure.Verdict.the-variants.{Fine, JobFails, GoalFails}
+use Rattle.lists.specs.declared.list.JobList.{JobList}
+use Rattle.lists.specs.Lists.{Good}
+use Rattle.lists.specs.Failures.{failure-of, Says}
+use Rattle.lists.specs.Models.{Listed, list-of, verdict-on, Shown}
+use Rattle.lists.proofs.Places.{Fits, fits-parts, jobs-length}
+use Rattle.lists.proofs.Verdicts.{Comes, Known, known-fact, says-so, exactly-good}
+
+comes : (l : Listed) (v : Verdict) (w u : World) → Shown l v w u → Comes (l .opening) v (seen u)
+comes l Fine w u s = tt
+comes l (JobFails k i x) w u s = s .1
+comes l (GoalFails i x) w u s = s .1
+
+module _ (l : JobList) where
+  inside : Fits (list-of l .facts) (list-of l .opening) (list-of l .goal) (list-of l .jobs)
+  inside = fits-parts (l .count) (list-of l .opening) (list-of l .goal) (list-of l .jobs) (l .inside)
+
+  short : length (list-of l .jobs) ≤ 64
+  short = let n : length (list-of l .jobs) ≡ l .len = jobs-length (l .jobs) (l .len) (omega arith) in omega arith
+
+  pub known-by : (v : Verdict) → v ≡ verdict-on (list-of l) → Known (list-of l .facts) v
+  known-by v e = subst (Known (list-of l .facts)) (sym e) (known-fact (list-of l .facts) (list-of l .opening) (list-of l .goal) (list-of l .jobs) inside short)
+
+  module _ (v : Verdict) (e : v ≡ verdict-on (list-of l)) (w u : World) (s : Shown (list-of l) v w u) where
+    pub after-by : Shown (list-of l) (verdict-on (list-of l)) w u
+    after-by = subst (λ (x : Verdict). Shown (list-of l) x w u) e s
+
+    pub good-by : Exactly (failure-of v ≡ None) (Good (list-of l .facts) (list-of l .opening) (list-of l .goal) (list-of l .jobs))
+    good-by =
+        subst (λ (x : Verdict). Exactly (failure-of x ≡ None) (Good (list-of l .facts) (list-of l .opening) (list-of l .goal) (list-of l .jobs))) (sym e) (exactly-good (list-of l .facts) (list-of l .opening) (list-of l .goal) (list-of l .jobs) inside short)
+
+    pub fails-by : Says (list-of l .facts) (list-of l .opening) (list-of l .jobs) (list-of l .goal) (seen u) (failure-of v)
+    fails-by =
+        subst (λ (x : Verdict). Says (list-of l .facts) (list-of l .opening) (list-of l .jobs) (list-of l .goal) (seen u) (failure-of x)) (sym e) (says-so (list-of l .facts) (list-of l .opening) (list-of l .goal) (list-of l .jobs) inside short (seen u) (comes (list-of l) (verdict-on (list-of l)) w u after-by))

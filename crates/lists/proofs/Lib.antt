@@ -1,0 +1,7 @@
+pub mod Places
+pub mod Adding
+pub mod Passing
+pub mod Examples
+pub mod Verdicts
+pub mod Turns
+pub mod Answering

@@ -1,0 +1,109 @@
+//! The first job of a list that fails, else the goal, and a world in which it does.
+ghost use mathlib.Core.Path.{_≡_};
+ghost use Prim.Native.Nat.{_<_};
+ghost use Rattle.std.specs.declared.option.Option.the-variants.{None};
+ghost use Rattle.facts.specs.States.{mark};
+ghost use Rattle.facts.specs.Models.{row, size-of, seen};
+ghost use Rattle.facts.specs.Words.{Exactly};
+ghost use Rattle.lists.specs.Lists.{Good, jobs-of};
+ghost use Rattle.lists.specs.Failures.{opposite, judged, example, failure-of, failure-number, Says};
+ghost use Rattle.lists.specs.Models.{list-of, verdict-on, Shown};
+use crate::list::JobList;
+use facts::Job;
+use facts::MAX_FACTS;
+use facts::Mark;
+use facts::State;
+use facts::World;
+
+/// What fails first: a job, by its place from 1, or the goal.
+#[derive(Clone, Copy, PartialEq, Eq, Debug)]
+pub enum Failure {
+    Job(usize),
+    Goal,
+}
+
+/// What the check of a list finds: nothing, or what fails first, a job by its place from 0, or the goal. With a
+/// failure come the fact of the literal that fails, and whether it holds in the world to show.
+pub(crate) enum Verdict {
+    Fine,
+    JobFails(usize, usize, bool),
+    GoalFails(usize, bool),
+}
+
+impl Failure {
+    /// The refusal's number.
+    pub fn number(&self) -> u8
+        ensures value { λ r. ⌜ r ≡ failure-number (now (self .entry)) ⌝ }
+    {
+        match self {
+            Failure::Job(_) => 30,
+            Failure::Goal => 31,
+        }
+    }
+}
+
+/// The first job that fails in some world meeting the opening, else the goal if it does, else nothing: the list is
+/// good. On a failure `example` becomes the world to show for it; otherwise it keeps what it held.
+pub fn first_failure(list: &JobList, example: &mut World) -> Option<Failure>
+    ensures value { λ r. ⌜ r ≡ failure-of (verdict-on (list-of (now (list .entry)))) ⌝ }
+    ensures after { λ _. ⌜ Shown (list-of (now (list .entry))) (verdict-on (list-of (now (list .entry)))) (now (example .entry)) (now (example .exit)) ⌝ }
+    ensures good { λ r. ⌜ Exactly (r ≡ None) (Good (list-of (now (list .entry)) .facts) (list-of (now (list .entry)) .opening) (list-of (now (list .entry)) .goal) (list-of (now (list .entry)) .jobs)) ⌝ }
+    ensures fails { λ r. ⌜ Says (list-of (now (list .entry)) .facts) (list-of (now (list .entry)) .opening) (list-of (now (list .entry)) .jobs) (list-of (now (list .entry)) .goal) (seen (now (example .exit))) r ⌝ }
+{
+    match judge(list) {
+        Verdict::Fine => None,
+        Verdict::JobFails(place, fact, holds) => {
+            *example = shown(list, fact, holds);
+            Some(Failure::Job(place + 1))
+        }
+        Verdict::GoalFails(fact, holds) => {
+            *example = shown(list, fact, holds);
+            Some(Failure::Goal)
+        }
+    }
+}
+
+/// The check of a list: the opening, overridden by the effects in turn, has to cover each precondition, and the goal.
+fn judge(list: &JobList) -> Verdict
+    ensures value { λ r. ⌜ r ≡ verdict-on (list-of (now (list .entry))) ⌝ }
+{
+    let mut state = list.opening;
+    for k in 0..list.len {
+        let job = list.jobs[k];
+        if let Some(fact) = state.missing(&job.precondition).lowest() {
+            return Verdict::JobFails(k, fact, turned(job.precondition.mark(fact)));
+        }
+        state = state.overridden(&job.effect);
+    }
+    match state.missing(&list.goal).lowest() {
+        None => Verdict::Fine,
+        Some(fact) => Verdict::GoalFails(fact, turned(list.goal.mark(fact))),
+    }
+}
+
+/// Whether a fact holds where its literal fails.
+fn turned(m: Mark) -> bool
+    ensures value { λ r. ⌜ r ≡ opposite m ⌝ }
+{
+    match m {
+        Mark::Fails => true,
+        Mark::Holds | Mark::Unnamed => false,
+    }
+}
+
+/// The world that is as the opening names it, else has `fact` as `holds` says, and no other fact holding.
+fn shown(list: &JobList, fact: usize, holds: bool) -> World
+    requires { ⌜ fact < list-of (now list) .facts ⌝ }
+    ensures size { λ r. ⌜ size-of r ≡ list-of (now (list .entry)) .facts ⌝ }
+    ensures facts { λ r. ⌜ seen r ≡ example (list-of (now (list .entry)) .opening) fact holds ⌝ }
+{
+    let mut facts = [false; MAX_FACTS];
+    facts[fact] = holds;
+    match World::new(&facts[0..list.count]) {
+        Err(_) => unreachable(),
+        Ok(mut world) => match world.set(&list.opening) {
+            Err(_) => unreachable(),
+            Ok(()) => world,
+        },
+    }
+}

@@ -137,13 +137,6 @@ meets-decides w s = (
   λ h. met-all w s (λ i. true-agrees (mark s i) (w i) (h i)),
 )
 
--- a test that came out one way
-pub decides-yes : {P : Type 0} → P → Decides true P
-decides-yes p = (λ _. p, λ _. refl)
-
-pub decides-no : {P : Type 0} → (P → ⊥) → Decides false P
-decides-no n = (λ h. absurd (both-ways true (sym h) refl), λ p. absurd (n p))
-
 -- a state of 256 places names facts below 256
 pub named-below : (s : State) → length s ≡ 256 → (i : ℕ) → Named s i → i < 256
 named-below s l i h = go (cases-lt i 256)

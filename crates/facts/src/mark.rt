@@ -27,13 +27,15 @@ pub(crate) fn is_named(m: Mark) -> bool
     }
 }
 
-/// What a fact is once a state with this mark is set over it.
-pub(crate) fn set_by(m: Mark, was: bool) -> bool
-    ensures value { λ r. ⌜ r ≡ set-one m was ⌝ }
-{
-    match m {
-        Mark::Unnamed => was,
-        Mark::Holds => true,
-        Mark::Fails => false,
+impl Mark {
+    /// What a fact is once a state with this mark is set over it.
+    pub fn set(self, was: bool) -> bool
+        ensures value { λ r. ⌜ r ≡ set-one self was ⌝ }
+    {
+        match self {
+            Mark::Unnamed => was,
+            Mark::Holds => true,
+            Mark::Fails => false,
+        }
     }
 }

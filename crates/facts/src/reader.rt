@@ -3,9 +3,10 @@ ghost use mathlib.Core.Path.{_≡_};
 ghost use mathlib.Core.Bool.{Bool};
 ghost use Prim.Native.Nat.{ℕ};
 ghost use denote.Ref.{now};
-ghost use Rattle.std.specs.Orderings.{Decides};
+ghost use Rattle.std.specs.Orderings.{Decides, When};
 ghost use Rattle.facts.specs.Worlds.{Sized, agrees, Meets, meets, unmet-one, unmet};
 ghost use Rattle.facts.specs.Models.{row};
+ghost use Rattle.facts.specs.Scans.{All-met, Picked};
 ghost use Rattle.facts.specs.Words.{Unmet};
 use crate::mark::Mark;
 use crate::state::MAX_FACTS;
@@ -32,12 +33,7 @@ pub fn meets<R: FactReader>(reader: &R, state: &State) -> bool
     ensures value { λ r. ⌜ r ≡ meets (R·FactReader .fact (now (reader .entry))) (row (now (state .entry))) ⌝ }
     ensures means { λ r. ⌜ Decides r (Meets (R·FactReader .fact (now (reader .entry))) (row (now (state .entry)))) ⌝ }
 {
-    for at in 0..MAX_FACTS {
-        if !agrees(reader, at, state.mark(at)) {
-            return false;
-        }
-    }
-    true
+    all_met(reader, state)
 }
 
 /// The literals of the state that are not true in what the reader tells.
@@ -45,11 +41,30 @@ pub fn unmet<R: FactReader>(reader: &R, state: &State) -> State
     ensures value { λ r. ⌜ row r ≡ unmet (R·FactReader .fact (now (reader .entry))) (row (now (state .entry))) ⌝ }
     ensures means { λ r. ⌜ Unmet (R·FactReader .fact (now (reader .entry))) (row (now (state .entry))) (row r) ⌝ }
 {
-    let mut marks = [Mark::Unnamed; MAX_FACTS];
+    picked(reader, state)
+}
+
+/// Whether each literal is true, fact by fact.
+fn all_met<R: FactReader>(reader: &R, state: &State) -> bool
+    ensures facts { λ r. ⌜ When r (All-met (R·FactReader .fact (now (reader .entry))) (row (now (state .entry)))) (All-met (R·FactReader .fact (now (reader .entry))) (row (now (state .entry))) → ⊥) ⌝ }
+{
     for at in 0..MAX_FACTS {
-        marks[at] = unmet_at(reader, at, state.mark(at));
+        if !agrees(reader, at, state.marks[at]) {
+            return false;
+        }
     }
-    State::of(marks)
+    true
+}
+
+/// The literals that are not true, fact by fact.
+fn picked<R: FactReader>(reader: &R, state: &State) -> State
+    ensures facts { λ r. ⌜ Picked (R·FactReader .fact (now (reader .entry))) (row (now (state .entry))) (row r) ⌝ }
+{
+    let mut marks = [Mark::Unnamed; MAX_FACTS];
+    for i in 0..MAX_FACTS {
+        marks[i] = unmet_at(reader, i, state.marks[i]);
+    }
+    State { marks }
 }
 
 /// Whether the literal of this mark, if there is one, is true of the fact. Only a named fact is asked for.

@@ -1,8 +1,8 @@
 -- What the check of a list answers, from its verdict and the world that comes with it.
-use mathlib.Core.Path.{_≡_, sym, ap, subst}
-use Prim.Native.Nat.{_≤_}
+use mathlib.Core.Path.{_≡_, sym, _∙_, ap, subst}
+use Prim.Native.Nat.{_-_, _≤_}
 use native.Mathlib.Omega.{arith}
-use lib.ListN.{length}
+use lib.ListN.{length, take}
 use Rattle.std.specs.declared.option.Option.the-variants.{None}
 use Rattle.facts.specs.declared.world.World.{World}
 use Rattle.facts.specs.Models.{seen}
@@ -10,10 +10,10 @@ use Rattle.facts.specs.Words.{Exactly}
 use Rattle.lists.specs.declared.failure.Verdict.{Verdict}
 use Rattle.lists.specs.declared.failure.Verdict.the-variants.{Fine, JobFails, GoalFails}
 use Rattle.lists.specs.declared.list.JobList.{JobList}
-use Rattle.lists.specs.Lists.{Good}
-use Rattle.lists.specs.Failures.{failure-of, Says}
+use Rattle.lists.specs.Lists.{jobs-of, Good}
+use Rattle.lists.specs.Failures.{judged, failure-of, Says}
 use Rattle.lists.specs.Models.{Listed, list-of, verdict-on, Shown}
-use Rattle.lists.proofs.Places.{Fits, fits-parts, jobs-length}
+use Rattle.lists.proofs.Places.{Fits, fits-parts}
 use Rattle.lists.proofs.Verdicts.{Comes, Known, known-fact, says-so, exactly-good}
 
 comes : (l : Listed) (v : Verdict) (w u : World) → Shown l v w u → Comes (l .opening) v (seen u)
@@ -26,7 +26,11 @@ module _ (l : JobList) where
   inside = fits-parts (l .count) (list-of l .opening) (list-of l .goal) (list-of l .jobs) (l .inside)
 
   short : length (list-of l .jobs) ≤ 64
-  short = let n : length (list-of l .jobs) ≡ l .len = jobs-length (l .jobs) (l .len) (omega arith) in omega arith
+  short = omega (arith, l .counted)
+
+  -- the verdict of the code, which goes through a part of the array
+  pub sliced : (v : Verdict) → v ≡ judged 1 (list-of l .opening) (jobs-of (take (l .len - 0) (l .jobs))) (list-of l .goal) → v ≡ verdict-on (list-of l)
+  sliced v e = let same : l .len - 0 ≡ l .len = omega arith in e ∙ ap (λ n. judged 1 (list-of l .opening) (jobs-of (take n (l .jobs))) (list-of l .goal)) same
 
   pub known-by : (v : Verdict) → v ≡ verdict-on (list-of l) → Known (list-of l .facts) v
   known-by v e = subst (Known (list-of l .facts)) (sym e) (known-fact (list-of l .facts) (list-of l .opening) (list-of l .goal) (list-of l .jobs) inside short)

@@ -1,21 +1,21 @@
 -- The example world: it is one, it is the only one, and the state is not met there.
 use mathlib.Core.Path.{_≡_, refl, sym, _∙_, ap}
 use mathlib.Core.Bool.{Bool, true, false, not, _&&_}
-use mathlib.Core.Logic.{_⊎_, inl, inr}
+use mathlib.Core.Logic.{_⊎_, inl, inr, ⊎-elim}
 use mathlib.Core.List.{List}
 use Prim.Native.Nat.{ℕ, _<_, _≤_}
 use native.Mathlib.Omega.{arith}
 use lib.Dec.{eqb}
-use lib.ListN.{length, getD, set, take, replicate}
-use Rattle.std.proofs.shelf.Lists.{length-set, length-replicate, length-take-le, getD-take, getD-set-same, getD-set-other, getD-past}
+use lib.ListN.{length, getD, take}
+use Rattle.std.proofs.shelf.Lists.{length-take-le, getD-take, getD-past}
 use Rattle.std.specs.declared.option.Option.the-variants.{Some}
 use Rattle.std.proofs.shelf.Tests.{eq-eqb, ne-eqb, cases-order, cases-eq, cases-lt}
 use Rattle.facts.specs.declared.mark.Mark.{Mark}
-use Rattle.facts.specs.declared.mark.Mark.the-variants.{Unnamed, Holds, Fails}
+use Rattle.facts.specs.declared.mark.Mark.the-variants.{Unnamed}
 use Rattle.facts.specs.States.{State, mark, named, sign, Has, Named, Within, missing}
 use Rattle.facts.specs.Worlds.{World, Job, Sized, Meets, set-one}
 use Rattle.facts.specs.Words.{Lowest}
-use Rattle.facts.proofs.Marks.{getD-everywhere, mark-missing, missing-some, sign-named, not-named, unnamed-not, sign-same, mark-cases, not-same, set-named, set-unnamed}
+use Rattle.facts.proofs.Marks.{mark-missing, missing-some, sign-named, not-named, unnamed-not, sign-same, mark-cases, not-same, set-named}
 use Rattle.lists.specs.Lists.{ran}
 use Rattle.lists.specs.Failures.{opposite, example, Example, Shows}
 use Rattle.lists.proofs.Passing.{after, has-below, meets-after, same-after}
@@ -103,27 +103,20 @@ module _ (n : ℕ) (O : State) (L : List Job) (Q : State) (i : ℕ) (x : Bool) (
         fails = λ m. not-same (lacks .0) (sym (fails-example (lacks .0) (lacks .1) (lacks .2)) ∙ m i (lacks .0) (lacks .1));
       }
 
--- the first n of a row in which only fact i is as x says, and no other holds
-pub only-length : (n i : ℕ) (x : Bool) → n ≤ 256 → length (take n (set (replicate 256 false) i x)) ≡ n
-only-length n i x l =
-    let e : length (set (replicate 256 false) i x) ≡ 256 = length-set (replicate 256 false) i x ∙ length-replicate 256 false in
-    length-take-le n (set (replicate 256 false) i x) (omega arith)
-
-pub only-fact : (n i : ℕ) (x : Bool) → i < n → n ≤ 256 → (k : ℕ) → getD (take n (set (replicate 256 false) i x)) k false ≡ (eqb k i && x)
-only-fact n i x h l k = go (cases-eq k i) (cases-lt k n)
+-- a row that has the example's facts below n
+pub shown-example : (O : State) (facts : List Bool) (m n i : ℕ) (x : Bool) → m ≡ n → Within n O → i < n → n ≤ length facts → ((k : ℕ) → k < n → getD facts k false ≡ example O i x k) → (λ (k : ℕ). getD (take m facts) k false) ≡ example O i x
+shown-example O facts m n i x e small below fits h = λ d k. at k d
   where
-    go : (k ≡ i) ⊎ (k ≡ i → ⊥) → (k < n) ⊎ (n ≤ k) → getD (take n (set (replicate 256 false) i x)) k false ≡ (eqb k i && x)
-    go (inl e) _ =
-        let m : k < n = omega arith in
-        getD-take n (set (replicate 256 false) i x) k false m
-        ∙ ap (λ a. getD (set (replicate 256 false) i x) a false) e
-        ∙ getD-set-same (replicate 256 false) i x false (rw length-replicate (omega arith))
-        ∙ sym (ap (λ t. t && x) (eq-eqb k i e))
-    go (inr d) (inl m) =
-        getD-take n (set (replicate 256 false) i x) k false m
-        ∙ getD-set-other (replicate 256 false) i k x false d
-        ∙ getD-everywhere 256 k false
-        ∙ sym (ap (λ t. t && x) (ne-eqb k i d))
-    go (inr d) (inr m) =
-        let f : length (take n (set (replicate 256 false) i x)) ≡ n = only-length n i x l in
-        getD-past (take n (set (replicate 256 false) i x)) k false (omega arith) ∙ sym (ap (λ t. t && x) (ne-eqb k i d))
+    past : (k : ℕ) → n ≤ k → example O i x k ≡ false
+    past k l =
+        let clear : Named O k → ⊥ = λ o. let less : k < n = small k o in omega arith in
+        set-other (mark O k) (eqb k i) x (not-named (mark O k) clear) (ne-eqb k i (λ z. omega arith))
+
+    at : (k : ℕ) → getD (take m facts) k false ≡ example O i x k
+    at k =
+        ⊎-elim
+        (λ l. getD-take m facts k false (omega arith) ∙ h k l)
+        (λ l.
+        let f : length (take m facts) ≡ m = length-take-le m facts (omega arith) in
+        getD-past (take m facts) k false (omega arith) ∙ sym (past k l))
+        (cases-lt k n)

@@ -3,5 +3,4 @@ pub mod Adding
 pub mod Passing
 pub mod Examples
 pub mod Verdicts
-pub mod Turns
 pub mod Answering

@@ -2,7 +2,7 @@
 use mathlib.Core.Path.{_≡_, refl, sym, _∙_, ap}
 use mathlib.Core.Bool.{Bool, true, false}
 use mathlib.Core.List.{List, [], _∷_, _++_}
-use Prim.Native.Nat.{ℕ, suc, _<_}
+use Prim.Native.Nat.{ℕ, _+_}
 use native.Mathlib.Omega.{arith}
 use lib.ListN.{length}
 use Rattle.std.specs.declared.option.Option.{Option}
@@ -16,7 +16,7 @@ use Rattle.facts.proofs.Tests.{lowest-is}
 use Rattle.lists.specs.declared.failure.Verdict.{Verdict}
 use Rattle.lists.specs.declared.failure.Verdict.the-variants.{Fine, JobFails, GoalFails}
 use Rattle.lists.specs.Lists.{ran, Ready, Works}
-use Rattle.lists.specs.Failures.{opposite, lacking, at-goal, at-job, later, judged}
+use Rattle.lists.specs.Failures.{opposite, lacking, at-goal, at-job, judged}
 
 -- each precondition is covered in turn, and the goal at the end
 abbrev pub Passes : State → List Job → State → Type 0
@@ -35,44 +35,46 @@ has-below P Q i b n h = missing-none (mark P i) (mark Q i) b (λ k. n (ap named 
 all-covered : (P Q : State) → Empty (missing P Q) → Covers P Q
 all-covered P Q e i b h = has-below P Q i b (e i) h
 
--- job k, from 0, is the first whose precondition is not covered; i is the lowest fact that it lacks, and x what that is in the example
-pub record Job-lacks (P : State) (L : List Job) (k i : ℕ) (x : Bool) : Type 0 where
+-- job k is the first whose precondition is not covered, where L begins with job n; i is the lowest fact that it lacks,
+-- and x what that is in the example
+pub record Job-lacks (n : ℕ) (P : State) (L : List Job) (k i : ℕ) (x : Bool) : Type 0 where
   pub earlier : List Job
   pub job : Job
   pub rest : List Job
   pub split : L ≡ earlier ++ job ∷ rest
-  pub count : length earlier ≡ k
+  pub place : k ≡ n + length earlier
   pub passes : Passes P earlier []
   pub low : Lowest (missing (after P earlier) (job .precondition)) (Some i)
   pub turned : x ≡ opposite (mark (job .precondition) i)
 
 -- what a verdict says of the states
-abbrev pub Tells : State → List Job → State → Verdict → Type 0
-Tells P L G Fine = Passes P L G
-Tells P L G (JobFails k i x) = Job-lacks P L k i x
-Tells P L G (GoalFails i x) = Passes P L [] × Lowest (missing (after P L) G) (Some i) × (x ≡ opposite (mark G i))
+abbrev pub Tells : ℕ → State → List Job → State → Verdict → Type 0
+Tells n P L G Fine = Passes P L G
+Tells n P L G (JobFails k i x) = Job-lacks n P L k i x
+Tells n P L G (GoalFails i x) = Passes P L [] × Lowest (missing (after P L) G) (Some i) × (x ≡ opposite (mark G i))
 
 covers-none : (P : State) → Covers P []
 covers-none P i true e = let z : _≡_ {A = ℕ} 0 1 = cc in absurd (omega arith)
 covers-none P i false e = let z : _≡_ {A = ℕ} 0 1 = cc in absurd (omega arith)
 
-tells-goal : (P G : State) (o : Option ℕ) → Lowest (missing P G) o → Tells P [] G (at-goal G o)
-tells-goal P G None l = all-covered P G l
-tells-goal P G (Some i) l = (covers-none P, l, refl)
+tells-goal : (n : ℕ) (P G : State) (o : Option ℕ) → Lowest (missing P G) o → Tells n P [] G (at-goal G o)
+tells-goal n P G None l = all-covered P G l
+tells-goal n P G (Some i) l = (covers-none P, l, refl)
 
-tells-later : (P : State) (j : Job) (L : List Job) (G : State) (v : Verdict) → Covers P (j .precondition) → Tells (overridden P (j .effect)) L G v → Tells P (j ∷ L) G (later v)
-tells-later P j L G Fine c t = (c, t)
-tells-later P j L G (JobFails k i x) c t =
-    record { earlier = j ∷ t .earlier; job = t .job; rest = t .rest; split = ap (λ l. j ∷ l) (t .split); count = ap suc (t .count); passes = (c, t .passes); low = t .low; turned = t .turned }
-tells-later P j L G (GoalFails i x) c t = ((c, t .0), t .1, t .2)
+tells-later : (n : ℕ) (P : State) (j : Job) (L : List Job) (G : State) (v : Verdict) → Covers P (j .precondition) → Tells (n + 1) (overridden P (j .effect)) L G v → Tells n P (j ∷ L) G v
+tells-later n P j L G Fine c t = (c, t)
+tells-later n P j L G (JobFails k i x) c t =
+    record { earlier = j ∷ t .earlier; job = t .job; rest = t .rest; split = ap (λ l. j ∷ l) (t .split); place = omega (arith, t .place); passes = (c, t .passes); low = t .low; turned = t .turned }
+tells-later n P j L G (GoalFails i x) c t = ((c, t .0), t .1, t .2)
 
-tells-job : (P : State) (j : Job) (L : List Job) (G : State) (o : Option ℕ) (v : Verdict) → Lowest (missing P (j .precondition)) o → Tells (overridden P (j .effect)) L G v → Tells P (j ∷ L) G (at-job (j .precondition) o v)
-tells-job P j L G None v l t = tells-later P j L G v (all-covered P (j .precondition) l) t
-tells-job P j L G (Some i) v l t = record { earlier = []; job = j; rest = L; split = refl; count = refl; passes = covers-none P; low = l; turned = refl }
+tells-job : (n : ℕ) (P : State) (j : Job) (L : List Job) (G : State) (o : Option ℕ) (v : Verdict) → Lowest (missing P (j .precondition)) o → Tells (n + 1) (overridden P (j .effect)) L G v → Tells n P (j ∷ L) G (at-job n (j .precondition) o v)
+tells-job n P j L G None v l t = tells-later n P j L G v (all-covered P (j .precondition) l) t
+tells-job n P j L G (Some i) v l t = record { earlier = []; job = j; rest = L; split = refl; place = omega arith; passes = covers-none P; low = l; turned = refl }
 
-pub tells : (P : State) (L : List Job) (G : State) → Tells P L G (judged P L G)
-tells P [] G = tells-goal P G (lacking P G) (lowest-is (missing P G))
-tells P (j ∷ L) G = tells-job P j L G (lacking P (j .precondition)) (judged (overridden P (j .effect)) L G) (lowest-is (missing P (j .precondition))) (tells (overridden P (j .effect)) L G)
+pub tells : (n : ℕ) (P : State) (L : List Job) (G : State) → Tells n P L G (judged n P L G)
+tells n P [] G = tells-goal n P G (lacking P G) (lowest-is (missing P G))
+tells n P (j ∷ L) G =
+    tells-job n P j L G (lacking P (j .precondition)) (judged (n + 1) (overridden P (j .effect)) L G) (lowest-is (missing P (j .precondition))) (tells (n + 1) (overridden P (j .effect)) L G)
 
 pub meets-carried : (w : World) (P E : State) → Meets w P → Meets (carried E w) (overridden P E)
 meets-carried w P E m i b h = over-sets (mark P i) (mark E i) (w i) b (m i b) (sym (mark-over P E i) ∙ h)

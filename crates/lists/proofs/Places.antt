@@ -2,10 +2,10 @@
 use mathlib.Core.Path.{_≡_, refl, sym, _∙_, ap}
 use mathlib.Core.Bool.{true, _&&_}
 use mathlib.Core.List.{List, [], _∷_, _++_}
-use Prim.Native.Nat.{ℕ, zero, suc, _<_, _≤_}
+use Prim.Native.Nat.{ℕ, zero, suc, _-_, _<_, _≤_}
 use native.Mathlib.Omega.{arith}
-use lib.ListN.{length, getD, take}
-use Rattle.std.proofs.shelf.Lists.{length-map, length-take-le, getD-map, getD-take}
+use lib.ListN.{length, getD, take, drop}
+use Rattle.std.proofs.shelf.Lists.{length-map, length-take-le, getD-map, getD-take, take-all}
 use Rattle.std.proofs.shelf.Tests.{and-parts, and-from}
 use Rattle.std.specs.declared.option.Option.the-variants.{Some, None}
 use Rattle.facts.specs.declared.job.Job as code
@@ -69,3 +69,8 @@ within-job n [] j rest h =
     let p = and-parts (job-within n j) (jobs-within n rest) h in
     within-decides n (j .precondition) .0 (and-parts (within n (j .precondition)) (within n (j .effect)) (p .0) .0)
 within-job n (i ∷ earlier) j rest h = within-job n earlier j rest (and-parts (job-within n i) (jobs-within n (earlier ++ j ∷ rest)) h .1)
+
+-- a list of one or more, taken apart as the code does it
+pub first-and-rest : (L : List code.Job) (j : code.Job) → 0 < length L → j ≡ getD L 0 j → L ≡ j ∷ take (length L - 1) (drop 1 L)
+first-and-rest [] j h is = absurd (omega arith)
+first-and-rest (k ∷ L) j h is = let n : length L ≤ length (k ∷ L) - 1 = omega arith in (λ d. sym is d ∷ sym (take-all (length (k ∷ L) - 1) L n) d)

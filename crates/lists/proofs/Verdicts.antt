@@ -2,9 +2,9 @@
 use mathlib.Core.Path.{_≡_, refl, sym, ap, subst}
 use mathlib.Core.Bool.{true, false}
 use mathlib.Core.List.{List, [], _∷_, _++_}
-use Prim.Native.Nat.{ℕ, _+_, _<_, _≤_}
+use Prim.Native.Nat.{ℕ, _<_, _≤_}
 use native.Mathlib.Omega.{arith}
-use lib.ListN.{length, length-append}
+use lib.ListN.{length}
 use Rattle.std.specs.declared.option.Option.the-variants.{None}
 use Rattle.facts.specs.States.{State, Within}
 use Rattle.facts.specs.Worlds.{World, Job}
@@ -24,10 +24,10 @@ Comes O Fine w = Unit
 Comes O (JobFails k i x) w = w ≡ example O i x
 Comes O (GoalFails i x) w = w ≡ example O i x
 
--- the job and the fact of a failure are the list's
+-- the fact of a failure is one of the list's
 abbrev pub Known : ℕ → Verdict → Type 0
 Known n Fine = Unit
-Known n (JobFails k i x) = (k < 64) × (i < n)
+Known n (JobFails k i x) = i < n
 Known n (GoalFails i x) = i < n
 
 module _ (n : ℕ) (O G : State) (L : List Job) (f : Fits n O G L) (few : length L ≤ 64) where
@@ -40,13 +40,13 @@ module _ (n : ℕ) (O G : State) (L : List Job) (f : Fits n O G L) (few : length
   within-failing : (earlier : List Job) (j : Job) (rest : List Job) → L ≡ earlier ++ j ∷ rest → Within n (j .precondition)
   within-failing earlier j rest e = within-job n earlier j rest (subst (λ l. jobs-within n l ≡ true) e (f .jobs))
 
-  known : (v : Verdict) → Tells O L G v → Known n v
+  known : (v : Verdict) → Tells 1 O L G v → Known n v
   known Fine t = tt
   known (JobFails k i x) t =
-      (omega (arith, t .count, simp length-append at (ap length (t .split)), few), below-size n O (t .earlier) (t .job .precondition) i x small (within-failing (t .earlier) (t .job) (t .rest) (t .split)) (t .low) (t .turned))
+      below-size n O (t .earlier) (t .job .precondition) i x small (within-failing (t .earlier) (t .job) (t .rest) (t .split)) (t .low) (t .turned)
   known (GoalFails i x) t = below-size n O L G i x small little (t .1) (t .2)
 
-  says : (v : Verdict) → Tells O L G v → (w : World) → Comes O v w → Says n O L G w (failure-of v)
+  says : (v : Verdict) → Tells 1 O L G v → (w : World) → Comes O v w → Says n O L G w (failure-of v)
   says Fine t w c = record { few = few; works = λ v s m. works-passes O L G t v m }
   says (JobFails k i x) t w c =
       record {
@@ -54,7 +54,7 @@ module _ (n : ℕ) (O G : State) (L : List Job) (f : Fits n O G L) (few : length
         job = t .job;
         rest = t .rest;
         split = t .split;
-        place = ap (λ m. m + 1) (sym (t .count));
+        place = omega (arith, t .place);
         ready = λ v s m. works-ready v (t .earlier) [] (works-passes O (t .earlier) [] (t .passes) v m);
         shows = subst (Shows n O (t .earlier) (t .job .precondition)) (sym c) (shows-example n O (t .earlier) (t .job .precondition) i x small (within-failing (t .earlier) (t .job) (t .rest) (t .split)) (t .low) (t .turned));
       }
@@ -64,14 +64,14 @@ module _ (n : ℕ) (O G : State) (L : List Job) (f : Fits n O G L) (few : length
         shows = subst (Shows n O L G) (sym c) (shows-example n O L G i x small little (t .1) (t .2));
       }
 
-  pub known-fact : Known n (judged O L G)
-  known-fact = known (judged O L G) (tells O L G)
+  pub known-fact : Known n (judged 1 O L G)
+  known-fact = known (judged 1 O L G) (tells 1 O L G)
 
-  pub says-so : (w : World) → Comes O (judged O L G) w → Says n O L G w (failure-of (judged O L G))
-  says-so w c = says (judged O L G) (tells O L G) w c
+  pub says-so : (w : World) → Comes O (judged 1 O L G) w → Says n O L G w (failure-of (judged 1 O L G))
+  says-so w c = says (judged 1 O L G) (tells 1 O L G) w c
 
   -- nothing is answered of a good list only
-  fine : (v : Verdict) → Tells O L G v → Good n O G L → failure-of v ≡ None
+  fine : (v : Verdict) → Tells 1 O L G v → Good n O G L → failure-of v ≡ None
   fine Fine t g = refl
   fine (JobFails k i x) t g =
       let w = example O i x in
@@ -82,10 +82,10 @@ module _ (n : ℕ) (O G : State) (L : List Job) (f : Fits n O G L) (few : length
       let s = says (GoalFails i x) t w refl .shows in
       absurd (s .fails (works-end w L G (g .works w (s .example .sized) (s .example .as-named))))
 
-  good : (v : Verdict) → Tells O L G v → failure-of v ≡ None → Good n O G L
+  good : (v : Verdict) → Tells 1 O L G v → failure-of v ≡ None → Good n O G L
   good Fine t e = says Fine t (example O 0 false) tt
   good (JobFails k i x) t e = let z : _≡_ {A = ℕ} 0 1 = cc in absurd (omega arith)
   good (GoalFails i x) t e = let z : _≡_ {A = ℕ} 0 1 = cc in absurd (omega arith)
 
-  pub exactly-good : Exactly (failure-of (judged O L G) ≡ None) (Good n O G L)
-  exactly-good = (good (judged O L G) (tells O L G), fine (judged O L G) (tells O L G))
+  pub exactly-good : Exactly (failure-of (judged 1 O L G) ≡ None) (Good n O G L)
+  exactly-good = (good (judged 1 O L G) (tells 1 O L G), fine (judged 1 O L G) (tells 1 O L G))

@@ -2,7 +2,7 @@
 use mathlib.Core.Path.{_≡_}
 use mathlib.Core.Bool.{Bool, true, false, not, _&&_}
 use mathlib.Core.List.{List, [], _∷_, _++_}
-use Prim.Native.Nat.{ℕ, suc, _+_, _<_}
+use Prim.Native.Nat.{ℕ, _+_, _<_}
 use lib.Dec.{eqb}
 use lib.ListN.{length}
 use Rattle.std.specs.declared.option.Option.{Option}
@@ -31,24 +31,18 @@ abbrev pub at-goal : State → Option ℕ → Verdict
 at-goal G None = Fine
 at-goal G (Some i) = GoalFails i (opposite (mark G i))
 
-abbrev pub later : Verdict → Verdict
-later Fine = Fine
-later (JobFails k i x) = JobFails (suc k) i x
-later (GoalFails i x) = GoalFails i x
+abbrev pub at-job : ℕ → State → Option ℕ → Verdict → Verdict
+at-job k Q None v = v
+at-job k Q (Some i) v = JobFails k i (opposite (mark Q i))
 
-abbrev pub at-job : State → Option ℕ → Verdict → Verdict
-at-job Q None v = later v
-at-job Q (Some i) v = JobFails 0 i (opposite (mark Q i))
+-- the jobs L, the first of which is job k, and the goal G checked from the state P, which the effects override in turn
+abbrev pub judged : ℕ → State → List Job → State → Verdict
+judged k P [] G = at-goal G (lacking P G)
+judged k P (j ∷ L) G = at-job k (j .precondition) (lacking P (j .precondition)) (judged (k + 1) (overridden P (j .effect)) L G)
 
--- the jobs L and the goal G checked from the state P, which the effects override in turn
-abbrev pub judged : State → List Job → State → Verdict
-judged P [] G = at-goal G (lacking P G)
-judged P (j ∷ L) G = at-job (j .precondition) (lacking P (j .precondition)) (judged (overridden P (j .effect)) L G)
-
--- jobs are counted from 1
 abbrev pub failure-of : Verdict → Option Failure
 failure-of Fine = None
-failure-of (JobFails k i x) = Some (failure.Job (k + 1))
+failure-of (JobFails k i x) = Some (failure.Job k)
 failure-of (GoalFails i x) = Some failure.Goal
 
 abbrev pub failure-number : Failure → ℕ

@@ -47,8 +47,9 @@ listed n O G = cond (ltb 256 n) (Err TooManyFacts) (cond (within n O && within n
 abbrev pub with-job : Listed → Job → Result Listed ListFault
 with-job l j = cond (leb 64 (length (l .jobs))) (Err TooManyJobs) (cond (job-within (l .facts) j) (Ok (record { facts = l .facts; opening = l .opening; goal = l .goal; jobs = l .jobs ++ j ∷ [] })) (Err FactPast))
 
+-- jobs are counted from 1
 abbrev pub verdict-on : Listed → Verdict
-verdict-on l = judged (l .opening) (l .jobs) (l .goal)
+verdict-on l = judged 1 (l .opening) (l .jobs) (l .goal)
 
 -- the world v after a check of the list that found it as w: the example world, of as many facts, or w itself
 abbrev pub Shown : Listed → Verdict → code.World → code.World → Type 0

@@ -1,12 +1,13 @@
 //! The first job of a list that fails, else the goal, and a world in which it does.
 ghost use mathlib.Core.Path.{_≡_};
-ghost use Prim.Native.Nat.{_<_};
+ghost use mathlib.Core.List.{_∷_};
+ghost use Prim.Native.Nat.{_+_, _<_, _≤_};
+ghost use lib.ListN.{length};
 ghost use Rattle.std.specs.declared.option.Option.the-variants.{None};
-ghost use Rattle.facts.specs.States.{mark};
-ghost use Rattle.facts.specs.Models.{row, size-of, seen};
+ghost use Rattle.facts.specs.Models.{row, job-of, size-of, seen};
 ghost use Rattle.facts.specs.Words.{Exactly};
 ghost use Rattle.lists.specs.Lists.{Good, jobs-of};
-ghost use Rattle.lists.specs.Failures.{opposite, judged, example, failure-of, failure-number, Says};
+ghost use Rattle.lists.specs.Failures.{opposite, lacking, at-goal, judged, example, failure-of, failure-number, Says};
 ghost use Rattle.lists.specs.Models.{list-of, verdict-on, Shown};
 use crate::list::JobList;
 use facts::Job;
@@ -22,7 +23,7 @@ pub enum Failure {
     Goal,
 }
 
-/// What the check of a list finds: nothing, or what fails first, a job by its place from 0, or the goal. With a
+/// What the check of a list finds: nothing, or what fails first, a job by its place from 1, or the goal. With a
 /// failure come the fact of the literal that fails, and whether it holds in the world to show.
 pub(crate) enum Verdict {
     Fine,
@@ -50,11 +51,11 @@ pub fn first_failure(list: &JobList, example: &mut World) -> Option<Failure>
     ensures good { λ r. ⌜ Exactly (r ≡ None) (Good (list-of (now (list .entry)) .facts) (list-of (now (list .entry)) .opening) (list-of (now (list .entry)) .goal) (list-of (now (list .entry)) .jobs)) ⌝ }
     ensures fails { λ r. ⌜ Says (list-of (now (list .entry)) .facts) (list-of (now (list .entry)) .opening) (list-of (now (list .entry)) .jobs) (list-of (now (list .entry)) .goal) (seen (now (example .exit))) r ⌝ }
 {
-    match judge(list) {
+    match judge(1, &list.opening, &list.jobs[0..list.len], &list.goal) {
         Verdict::Fine => None,
         Verdict::JobFails(place, fact, holds) => {
             *example = shown(list, fact, holds);
-            Some(Failure::Job(place + 1))
+            Some(Failure::Job(place))
         }
         Verdict::GoalFails(fact, holds) => {
             *example = shown(list, fact, holds);
@@ -63,21 +64,35 @@ pub fn first_failure(list: &JobList, example: &mut World) -> Option<Failure>
     }
 }
 
-/// The check of a list: the opening, overridden by the effects in turn, has to cover each precondition, and the goal.
-fn judge(list: &JobList) -> Verdict
-    ensures value { λ r. ⌜ r ≡ verdict-on (list-of (now (list .entry))) ⌝ }
+/// The check of jobs, the first of which is job `place`, and a goal, from a state.
+fn judge(place: usize, state: &State, jobs: &[Job], goal: &State) -> Verdict
+    requires { ⌜ place + length (now jobs) ≤ 65 ⌝ }
+    ensures value { λ r. ⌜ r ≡ judged place (row (now (state .entry))) (jobs-of (now (jobs .entry))) (row (now (goal .entry))) ⌝ }
 {
-    let mut state = list.opening;
-    for k in 0..list.len {
-        let job = list.jobs[k];
-        if let Some(fact) = state.missing(&job.precondition).lowest() {
-            return Verdict::JobFails(k, fact, turned(job.precondition.mark(fact)));
-        }
-        state = state.overridden(&job.effect);
+    match jobs {
+        [] => judge_goal(state, goal),
+        [job, rest @ ..] => judge_job(place, state, job, rest, goal),
     }
-    match state.missing(&list.goal).lowest() {
+}
+
+/// The state has to cover the job's precondition; overridden by the effect, it is what the rest is checked from.
+fn judge_job(place: usize, state: &State, job: &Job, rest: &[Job], goal: &State) -> Verdict
+    requires { ⌜ place + 1 + length (now rest) ≤ 65 ⌝ }
+    ensures value { λ r. ⌜ r ≡ judged place (row (now (state .entry))) (job-of (now (job .entry)) ∷ jobs-of (now (rest .entry))) (row (now (goal .entry))) ⌝ }
+{
+    match state.missing(&job.precondition).lowest() {
+        Some(fact) => Verdict::JobFails(place, fact, turned(job.precondition.mark(fact))),
+        None => judge(place + 1, &state.overridden(&job.effect), rest, goal),
+    }
+}
+
+/// The state after all jobs has to cover the goal.
+fn judge_goal(state: &State, goal: &State) -> Verdict
+    ensures value { λ r. ⌜ r ≡ at-goal (row (now (goal .entry))) (lacking (row (now (state .entry))) (row (now (goal .entry)))) ⌝ }
+{
+    match state.missing(goal).lowest() {
         None => Verdict::Fine,
-        Some(fact) => Verdict::GoalFails(fact, turned(list.goal.mark(fact))),
+        Some(fact) => Verdict::GoalFails(fact, turned(goal.mark(fact))),
     }
 }
 
@@ -98,12 +113,11 @@ fn shown(list: &JobList, fact: usize, holds: bool) -> World
     ensures facts { λ r. ⌜ seen r ≡ example (list-of (now (list .entry)) .opening) fact holds ⌝ }
 {
     let mut facts = [false; MAX_FACTS];
-    facts[fact] = holds;
+    for k in 0..list.count {
+        facts[k] = list.opening.mark(k).set(k == fact && holds);
+    }
     match World::new(&facts[0..list.count]) {
+        Ok(world) => world,
         Err(_) => unreachable(),
-        Ok(mut world) => match world.set(&list.opening) {
-            Err(_) => unreachable(),
-            Ok(()) => world,
-        },
     }
 }

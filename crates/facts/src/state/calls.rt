@@ -1,9 +1,11 @@
 //! Questions of states, and states made of others.
 ghost use mathlib.Core.Path.{_≡_};
 ghost use mathlib.Core.Bool.{not};
-ghost use Rattle.std.specs.Orderings.{Decides};
+ghost use Rattle.std.specs.Options.{Cases};
+ghost use Rattle.std.specs.Orderings.{Decides, When};
 ghost use Rattle.facts.specs.States.{mark, named, nothing, added, covers, Covers, same, apart, Apart, within, Within, lowest, overridden, without, missing};
 ghost use Rattle.facts.specs.Models.{row, Leaves};
+ghost use Rattle.facts.specs.Scans.{None-from, First};
 ghost use Rattle.facts.specs.Words.{Empty, Overridden, Without, Missing, One-more, Lowest, Where-ok};
 use crate::mark::Mark;
 use crate::mark::is_named;
@@ -35,13 +37,6 @@ impl State {
         State {
             marks: [Mark::Unnamed; MAX_FACTS],
         }
-    }
-
-    /// The state of these marks.
-    pub(crate) fn of(marks: [Mark; MAX_FACTS]) -> State
-        ensures value { λ r. ⌜ row r ≡ marks ⌝ }
-    {
-        State { marks }
     }
 
     /// How the state speaks of a fact; it names none past 255.
@@ -106,12 +101,7 @@ impl State {
         ensures value { λ r. ⌜ r ≡ within count (row (now (self .entry))) ⌝ }
         ensures means { λ r. ⌜ Decides r (Within count (row (now (self .entry)))) ⌝ }
     {
-        for i in count..MAX_FACTS {
-            if is_named(self.marks[i]) {
-                return false;
-            }
-        }
-        true
+        self.none_from(count)
     }
 
     /// The lowest fact that the state names.
@@ -119,12 +109,7 @@ impl State {
         ensures value { λ r. ⌜ r ≡ lowest (row (now (self .entry))) ⌝ }
         ensures means { λ r. ⌜ Lowest (row (now (self .entry))) r ⌝ }
     {
-        for i in 0..MAX_FACTS {
-            if is_named(self.marks[i]) {
-                return Some(i);
-            }
-        }
-        None
+        self.first()
     }
 
     /// The literals of `effect`, and those of this state whose fact `effect` does not name.
@@ -149,5 +134,29 @@ impl State {
         ensures means { λ r. ⌜ Missing (row (now (self .entry))) (row (now (wanted .entry))) (row r) ⌝ }
     {
         blended::<Lacking>(self, wanted)
+    }
+
+    /// Whether no fact from `count` on is named.
+    fn none_from(&self, count: usize) -> bool
+        ensures facts { λ r. ⌜ When r (None-from count (row (now (self .entry)))) (None-from count (row (now (self .entry))) → ⊥) ⌝ }
+    {
+        for fact in count..MAX_FACTS {
+            if is_named(self.marks[fact]) {
+                return false;
+            }
+        }
+        true
+    }
+
+    /// The first fact that is named.
+    fn first(&self) -> Option<usize>
+        ensures facts { λ r. ⌜ Cases r (None-from 0 (row (now (self .entry)))) (First (row (now (self .entry)))) ⌝ }
+    {
+        for i in 0..MAX_FACTS {
+            if is_named(self.marks[i]) {
+                return Some(i);
+            }
+        }
+        None
     }
 }

@@ -13,7 +13,7 @@ pub const MAX_FACTS: usize = 256;
 /// A set of literals that names each fact at most once: the mark of fact 0, of fact 1, and so on.
 #[derive(Clone, Copy)]
 pub struct State {
-    marks: [Mark; MAX_FACTS],
+    pub(crate) marks: [Mark; MAX_FACTS],
     ghost size: { length marks ≡ 256 },
 }
 

@@ -2,8 +2,10 @@
 ghost use mathlib.Core.Path.{_≡_};
 ghost use mathlib.Core.Bool.{Bool};
 ghost use Rattle.facts.specs.declared.mark.Mark.{Mark};
-ghost use Rattle.facts.specs.States.{over-one, less-one, missing-one, blend, covers-one, same-one, apart-one, every};
+ghost use Rattle.facts.specs.States.{over-one, less-one, missing-one, covers-one, same-one, apart-one};
+ghost use Rattle.std.specs.Orderings.{When};
 ghost use Rattle.facts.specs.Models.{row};
+ghost use Rattle.facts.specs.Scans.{Blended, Everywhere};
 use crate::mark::Mark;
 use crate::state::MAX_FACTS;
 use crate::state::State;
@@ -117,21 +119,21 @@ pub(crate) impl PairTest for Disjoint as DisjointTest {
 
 /// The state made of two, fact by fact.
 pub(crate) fn blended<B: Blend>(p: &State, q: &State) -> State
-    ensures value { λ r. ⌜ row r ≡ blend (B·Blend .one) (row (now (p .entry))) (row (now (q .entry))) ⌝ }
+    ensures facts { λ r. ⌜ Blended (B·Blend .one) (row (now (p .entry))) (row (now (q .entry))) (row r) ⌝ }
 {
-    let mut marks = p.marks;
+    let mut marks = [Mark::Unnamed; MAX_FACTS];
     for i in 0..MAX_FACTS {
-        marks[i] = B::blend(marks[i], q.marks[i]);
+        marks[i] = B::blend(p.marks[i], q.marks[i]);
     }
     State { marks }
 }
 
 /// Whether two states pass the test at every fact.
 pub(crate) fn all_pass<T: PairTest>(p: &State, q: &State) -> bool
-    ensures value { λ r. ⌜ r ≡ every (T·PairTest .passes) (row (now (p .entry))) (row (now (q .entry))) ⌝ }
+    ensures facts { λ r. ⌜ When r (Everywhere (T·PairTest .passes) (row (now (p .entry))) (row (now (q .entry)))) (Everywhere (T·PairTest .passes) (row (now (p .entry))) (row (now (q .entry))) → ⊥) ⌝ }
 {
-    for i in 0..MAX_FACTS {
-        if !T::test(p.marks[i], q.marks[i]) {
+    for fact in 0..MAX_FACTS {
+        if !T::test(p.marks[fact], q.marks[fact]) {
             return false;
         }
     }

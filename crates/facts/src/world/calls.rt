@@ -4,7 +4,6 @@ ghost use Rattle.facts.specs.Worlds.{set-facts, carry};
 ghost use Rattle.facts.specs.Models.{row, job-of, size-of, seen, making-number, Made, Leaves};
 ghost use Rattle.facts.specs.Words.{Sets, Where-ok};
 use crate::job::Job;
-use crate::mark::set_by;
 use crate::reader::FactReader;
 use crate::state::MAX_FACTS;
 use crate::state::State;
@@ -51,7 +50,7 @@ impl World {
         }
         let mut facts = self.facts;
         for i in 0..MAX_FACTS {
-            facts[i] = set_by(state.mark(i), facts[i]);
+            facts[i] = state.mark(i).set(facts[i]);
         }
         *self = World { count, facts };
         Ok(())

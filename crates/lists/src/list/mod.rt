@@ -26,6 +26,7 @@ pub struct JobList {
     ghost few: { count ≤ 256 },
     ghost places: { length jobs ≡ 64 },
     ghost short: { len ≤ 64 },
+    ghost counted: { length (jobs-of (take len jobs)) ≡ len },
     ghost inside: { fits count (row opening) (row goal) (jobs-of (take len jobs)) ≡ true },
 }
 

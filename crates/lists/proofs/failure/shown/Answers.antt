@@ -1,23 +1,22 @@
-use mathlib.Core.Path.{_≡_, _∙_, ap}
-use mathlib.Core.Bool.{Bool, _&&_}
+use mathlib.Core.Path.{_≡_, _∙_, sym, ap}
+use mathlib.Core.Bool.{Bool, false, _&&_}
 use Prim.Native.Nat.{ℕ, _-_}
 use native.Mathlib.Omega.{arith}
-use lib.Dec.{eqb}
-use Rattle.facts.specs.Worlds.{World, carried}
-use Rattle.facts.specs.Models.{row, seen}
-use Rattle.facts.proofs.Meanings.{set-accepted}
-use Rattle.lists.proofs.Examples.{only-length, only-fact}
+use Rattle.std.proofs.shelf.Lists.{length-take-le}
+use Rattle.facts.specs.Models.{row}
+use Rattle.lists.proofs.Examples.{shown-example}
+use Rattle.lists.proofs.Places.{fits-parts}
+use Rattle.lists.specs.Models.{list-of}
+use Rattle.facts.proofs.Tests.{within-decides}
 use Rattle.lists.proofs.failure.shown.Needs as need
 
 pub returns : need.returns
 returns c =
     let l = c .args .list .now in
     let O = row (l .opening) in
-    let i = c .args .fact in
-    let x = c .args .holds in
-    let only : (k : ℕ) → seen (c .in-Ok .world) k ≡ (eqb k i && x) = λ k. (λ d. c .in-Ok .ensures tt .cases .2 d k) ∙ only-fact (l .count - 0) i x (omega arith) (omega arith) k in
     let same : l .count - 0 ≡ l .count = omega arith in
+    let small = within-decides (l .count) O .0 (fits-parts (l .count) O (list-of l .goal) (list-of l .jobs) (l .inside) .opening) in
     record {
-      size = c .in-Ok-set .ensures tt .size ∙ c .in-Ok .ensures tt .cases .1 ∙ only-length (l .count - 0) i x (omega arith) ∙ same;
-      facts = set-accepted (c .in-Ok .world .count) O (seen (c .in-Ok .world)) (seen (c .set .last .self)) (c .in-Ok-set .field-0) (c .in-Ok-set .ensures tt .after) ∙ (λ d. carried O (λ k. only k d));
+      size = c .in-Ok .ensures tt .cases .1 ∙ length-take-le (l .count - 0) (c .loop-k .facts) (omega arith) ∙ same;
+      facts = c .in-Ok .ensures tt .cases .2 ∙ shown-example O (c .loop-k .facts) (l .count - 0) (l .count) (c .args .fact) (c .args .holds) same small (c .pre) (omega arith) (λ m h. c .loop-k .inv .1 m (omega arith));
     }

@@ -1,8 +1,9 @@
-use mathlib.Core.Path.{_≡_, ap, _∙_}
+use mathlib.Core.Path.{_≡_, refl, _∙_, ap}
 use mathlib.Core.Bool.{Bool, true, false, not}
-use mathlib.Core.Path.{refl}
-use Rattle.std.proofs.shelf.Ways.{decides-at}
+use Rattle.std.proofs.shelf.Ways.{same-from-decides, decides-at}
+use Rattle.facts.specs.States.{apart-one, apart}
 use Rattle.facts.proofs.Tests.{apart-decides}
+use Rattle.facts.proofs.Scans.{decides-when, everywhere-decides}
 use Rattle.facts.proofs.state.State.shares.Needs as need
 
 not-not : (b : Bool) → not (not b) ≡ b
@@ -11,6 +12,8 @@ not-not false = refl
 
 pub returns : need.returns
 returns c =
-    let P = c .args .self .now .marks in
-    let Q = c .args .other .now .marks in
-    record { value = ap not (c .all-pass .ensures .value); means = decides-at _ _ (not-not (c .all-pass .result) ∙ c .all-pass .ensures .value) (apart-decides P Q) }
+    let P = c .args .self .now in
+    let Q = c .args .other .now in
+    let r = c .all-pass .result in
+    let is = same-from-decides r (apart (P .marks) (Q .marks)) (decides-when r (c .all-pass .ensures .facts)) (everywhere-decides apart-one refl (P .marks) (Q .marks) (P .size) (Q .size)) in
+    record { value = ap not is; means = decides-at _ _ (not-not r ∙ is) (apart-decides (P .marks) (Q .marks)) }

@@ -1,7 +1,8 @@
 use mathlib.Core.Path.{_≡_}
-use lib.ListN.{drop}
-use Rattle.facts.specs.States.{every}
+use mathlib.Core.Bool.{true}
+use Prim.Native.Nat.{ℕ, _<_}
+use Rattle.facts.specs.States.{mark}
 use Rattle.facts.proofs.state.pairs.all_pass.Given as given
 
-abbrev pub Inv-loop-i : given.InvT-loop-i
-Inv-loop-i g l = every (g .T·PairTest .passes) (drop (l .i) (l .p .marks)) (drop (l .i) (l .q .marks)) ≡ every (g .T·PairTest .passes) (l .p .marks) (l .q .marks)
+abbrev pub Inv-loop-fact : given.InvT-loop-fact
+Inv-loop-fact g l = (k : ℕ) → k < l .fact → g .T·PairTest .passes (mark (l .p .marks) k) (mark (l .q .marks) k) ≡ true

@@ -1,17 +1,15 @@
-use mathlib.Core.Path.{refl, sym, _∙_}
+use mathlib.Core.Path.{_∙_}
 use native.Mathlib.Omega.{arith}
 use lib.ListN.{length-set}
-use Rattle.facts.proofs.Loops.{blend-more, blend-end}
+use Rattle.facts.specs.declared.mark.Mark.the-variants.{Unnamed}
+use Rattle.facts.specs.States.{mark}
+use Rattle.facts.proofs.Loops.{fill-more}
 use Rattle.facts.proofs.state.pairs.blended.Needs as need
 
-pub loop-i-holds : need.loop-i-holds
-loop-i-holds g c = (c .args .p .now .size, refl)
-
 pub loop-i-again : need.loop-i-again
-loop-i-again g c = (
-  length-set _ _ _ ∙ c .loop-i .inv .0,
-  blend-more (g .B·Blend .one) (c .loop-i .marks) (c .args .q .now .marks) (c .loop-i .i) _ (omega arith) (omega arith) (c .blend .ensures) ∙ c .loop-i .inv .1,
-)
-
-pub returns : need.returns
-returns g c = record { value = sym (blend-end (g .B·Blend .one) (c .loop-i .marks) (c .args .q .now .marks) (c .loop-i .i) (omega arith) (omega arith)) ∙ c .loop-i .inv .1 }
+loop-i-again g c =
+    let P = c .args .p .now .marks in
+    let Q = c .args .q .now .marks in (
+      length-set _ _ _ ∙ c .loop-i .inv .0,
+      fill-more (λ k. g .B·Blend .one (mark P k) (mark Q k)) (c .loop-i .marks) (c .loop-i .i) (c .blend .result) Unnamed (omega arith) (c .blend .ensures) (c .loop-i .inv .1),
+    )

@@ -2,7 +2,7 @@ use mathlib.Core.Path.{_≡_, sym}
 use native.Mathlib.Omega.{arith}
 use lib.ListN.{length, take, getD}
 use Rattle.lists.specs.Lists.{jobs-of}
-use Rattle.lists.proofs.Places.{jobs-length, at-place, nth-job, nth-past}
+use Rattle.lists.proofs.Places.{at-place, nth-job, nth-past}
 use Rattle.lists.proofs.list.JobList.job.Needs as need
 
 pub returns-then-at-self : need.returns-then-at-self
@@ -14,5 +14,5 @@ returns-then-at-self c =
 pub returns-else-at-self : need.returns-else-at-self
 returns-else-at-self c =
     let l = c .args .self .now in
-    let n : length (jobs-of (take (l .len) (l .jobs))) ≡ l .len = jobs-length (l .jobs) (l .len) (omega arith) in
+    let n : length (jobs-of (take (l .len) (l .jobs))) ≡ l .len = l .counted in
     record { value = sym (nth-past (jobs-of (take (l .len) (l .jobs))) (c .args .at) (omega arith)) }

@@ -10,15 +10,12 @@ use Rattle.std.specs.declared.result.Result.the-variants.{Ok, Err}
 use Rattle.std.proofs.shelf.Lists.{getD-set-same, getD-set-other}
 use Rattle.std.proofs.shelf.Tests.{cases-eq}
 use Rattle.facts.specs.declared.mark.Mark.the-variants.{Unnamed}
-use Rattle.facts.specs.States.{State, Has, mark, sign, nothing, overridden, without, missing, within}
+use Rattle.facts.specs.States.{State, Has, mark, sign, overridden, without, missing, within}
 use Rattle.facts.specs.declared.world.PastFault.the-variants.{FactPast}
 use Rattle.facts.specs.Worlds.{World, unmet, carried, set-facts}
 use Rattle.facts.specs.Models.{Leaves}
-use Rattle.facts.specs.Words.{Empty, Overridden, Without, Missing, Unmet, One-more, Sets}
-use Rattle.facts.proofs.Marks.{mark-over, mark-less, mark-missing, mark-unmet, mark-nothing, over-says, says-over, less-says, says-less, missing-says, says-missing, unmet-says, says-unmet, unnamed-not, not-named, set-named, set-unnamed, sign-same, sign-named}
-
-pub nothing-empty : Empty nothing
-nothing-empty i = unnamed-not (mark nothing i) (mark-nothing i)
+use Rattle.facts.specs.Words.{Overridden, Without, Missing, Unmet, One-more, Sets}
+use Rattle.facts.proofs.Marks.{mark-over, mark-less, mark-missing, mark-unmet, over-says, says-over, less-says, says-less, missing-says, says-missing, unmet-says, says-unmet, unnamed-not, not-named, set-named, set-unnamed, sign-same, sign-named}
 
 pub overridden-means : (P E : State) → Overridden P E (overridden P E)
 overridden-means P E i b = (

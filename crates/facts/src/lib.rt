@@ -19,3 +19,4 @@ pub use state::State;
 pub use world::PastFault;
 pub use world::World;
 pub use world::WorldFault;
+pub use world::WorldReader;

@@ -1,9 +1,11 @@
 -- What the check of a list answers, from its verdict and the world that comes with it.
 use mathlib.Core.Path.{_≡_, sym, _∙_, ap, subst}
-use Prim.Native.Nat.{_-_, _≤_}
+use mathlib.Core.List.{List}
+use Prim.Native.Nat.{_≤_}
 use native.Mathlib.Omega.{arith}
-use lib.ListN.{length, take}
+use lib.ListN.{length}
 use Rattle.std.specs.declared.option.Option.the-variants.{None}
+use Rattle.facts.specs.declared.job.Job.{Job}
 use Rattle.facts.specs.declared.world.World.{World}
 use Rattle.facts.specs.Models.{seen}
 use Rattle.facts.specs.Words.{Exactly}
@@ -28,9 +30,9 @@ module _ (l : JobList) where
   short : length (list-of l .jobs) ≤ 64
   short = omega (arith, l .counted)
 
-  -- the verdict of the code, which goes through a part of the array
-  pub sliced : (v : Verdict) → v ≡ judged 1 (list-of l .opening) (jobs-of (take (l .len - 0) (l .jobs))) (list-of l .goal) → v ≡ verdict-on (list-of l)
-  sliced v e = let same : l .len - 0 ≡ l .len = omega arith in e ∙ ap (λ n. judged 1 (list-of l .opening) (jobs-of (take n (l .jobs))) (list-of l .goal)) same
+  -- the verdict on the jobs that the list answers
+  pub asked : (v : Verdict) (jobs : List Job) → jobs-of jobs ≡ list-of l .jobs → v ≡ judged 1 (list-of l .opening) (jobs-of jobs) (list-of l .goal) → v ≡ verdict-on (list-of l)
+  asked v jobs e h = h ∙ ap (λ L. judged 1 (list-of l .opening) L (list-of l .goal)) e
 
   pub known-by : (v : Verdict) → v ≡ verdict-on (list-of l) → Known (list-of l .facts) v
   known-by v e = subst (Known (list-of l .facts)) (sym e) (known-fact (list-of l .facts) (list-of l .opening) (list-of l .goal) (list-of l .jobs) inside short)

@@ -1,4 +1,4 @@
--- What stands in a list of jobs.
+-- Lists of jobs that fit, and a list taken apart.
 use mathlib.Core.Path.{_≡_, refl, sym, _∙_, ap}
 use mathlib.Core.Bool.{true, _&&_}
 use mathlib.Core.List.{List, [], _∷_, _++_}
@@ -13,30 +13,7 @@ use Rattle.facts.specs.States.{State, Within, within}
 use Rattle.facts.specs.Worlds.{Job, job-within}
 use Rattle.facts.specs.Models.{job-of}
 use Rattle.facts.proofs.Tests.{within-decides}
-use Rattle.lists.specs.Lists.{jobs-of, nth, jobs-within, fits}
-
-pub jobs-length : (L : List code.Job) (n : ℕ) → n ≤ length L → length (jobs-of (take n L)) ≡ n
-jobs-length L n h = length-map (take n L) job-of ∙ length-take-le n L h
-
-pub nth-within : {X : Type 0} (xs : List X) (i : ℕ) (d : X) → i < length xs → nth xs i ≡ Some (getD xs i d)
-nth-within [] i d h = absurd (omega arith)
-nth-within (x ∷ xs) zero d h = refl
-nth-within (x ∷ xs) (suc i) d h = nth-within xs i d (omega arith)
-
-pub nth-past : {X : Type 0} (xs : List X) (i : ℕ) → length xs ≤ i → nth xs i ≡ None
-nth-past [] i h = refl
-nth-past (x ∷ xs) zero h = absurd (omega arith)
-nth-past (x ∷ xs) (suc i) h = nth-past xs i (omega arith)
-
--- what the code reads at place i of the first n
-pub at-place : (L : List code.Job) (n i : ℕ) (r : code.Job) → i < n → r ≡ getD L i r → getD L i r ≡ getD (take n L) i (getD L i r)
-at-place L n i r h is = ap (λ x. getD L i x) is ∙ sym (getD-take n L i (getD L i r) h)
-
-pub nth-job : (L : List code.Job) (n i : ℕ) (j : code.Job) → n ≤ length L → i < n → j ≡ getD (take n L) i j → nth (jobs-of (take n L)) i ≡ Some (job-of j)
-nth-job L n i j h k is =
-    let l : length (take n L) ≡ n = length-take-le n L h in
-    let m : length (jobs-of (take n L)) ≡ n = jobs-length L n h in
-    nth-within (jobs-of (take n L)) i (job-of j) (omega arith) ∙ ap Some (getD-map job-of (take n L) i j (job-of j) (omega arith) ∙ ap job-of (sym is))
+use Rattle.lists.specs.Lists.{jobs-within, fits}
 
 jobs-within-push : (n : ℕ) (L : List Job) (j : Job) → jobs-within n L ≡ true → job-within n j ≡ true → jobs-within n (L ++ j ∷ []) ≡ true
 jobs-within-push n [] j h k = and-from (job-within n j) true k refl

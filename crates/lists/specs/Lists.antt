@@ -2,10 +2,8 @@
 use mathlib.Core.Path.{_≡_}
 use mathlib.Core.Bool.{Bool, true, _&&_}
 use mathlib.Core.List.{List, [], _∷_, map}
-use Prim.Native.Nat.{ℕ, zero, suc, _≤_}
+use Prim.Native.Nat.{ℕ, _≤_}
 use lib.ListN.{length}
-use Rattle.std.specs.declared.option.Option.{Option}
-use Rattle.std.specs.declared.option.Option.the-variants.{Some, None}
 use Rattle.facts.specs.declared.job.Job as code
 use Rattle.facts.specs.States.{State, within}
 use Rattle.facts.specs.Worlds.{World, Job, Sized, Meets, carried, job-within}
@@ -13,12 +11,6 @@ use Rattle.facts.specs.Models.{job-of}
 
 abbrev pub jobs-of : List code.Job → List Job
 jobs-of L = map job-of L
-
--- what stands at place i, from 0
-abbrev pub nth : {X : Type 0} → List X → ℕ → Option X
-nth [] i = None
-nth (x ∷ xs) zero = Some x
-nth (x ∷ xs) (suc i) = nth xs i
 
 -- whether the jobs name only facts below n
 abbrev pub jobs-within : ℕ → List Job → Bool

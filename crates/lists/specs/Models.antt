@@ -5,8 +5,6 @@ use mathlib.Core.List.{List, [], _∷_, _++_}
 use Prim.Native.Nat.{ℕ}
 use lib.Dec.{leb, ltb}
 use lib.ListN.{length, take}
-use Rattle.std.specs.declared.option.Option.{Option}
-use Rattle.std.specs.declared.option.Option.the-variants.{Some, None}
 use Rattle.std.specs.declared.result.Result.{Result}
 use Rattle.std.specs.declared.result.Result.the-variants.{Ok, Err}
 use Rattle.facts.specs.declared.world.World as code
@@ -34,10 +32,6 @@ list-of l = record { facts = l .count; opening = row (l .opening); goal = row (l
 abbrev pub mapped-ok : {X Y E : Type 0} → (X → Y) → Result X E → Result Y E
 mapped-ok f (Ok x) = Ok (f x)
 mapped-ok f (Err e) = Err e
-
-abbrev pub mapped-some : {X Y : Type 0} → (X → Y) → Option X → Option Y
-mapped-some f None = None
-mapped-some f (Some x) = Some (f x)
 
 -- the list of no jobs: refused with more than 256 facts, then where a state names a fact not below n
 abbrev pub listed : ℕ → State → State → Result Listed ListFault

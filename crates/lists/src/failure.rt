@@ -51,7 +51,7 @@ pub fn first_failure(list: &JobList, example: &mut World) -> Option<Failure>
     ensures good { λ r. ⌜ Exactly (r ≡ None) (Good (list-of (now (list .entry)) .facts) (list-of (now (list .entry)) .opening) (list-of (now (list .entry)) .goal) (list-of (now (list .entry)) .jobs)) ⌝ }
     ensures fails { λ r. ⌜ Says (list-of (now (list .entry)) .facts) (list-of (now (list .entry)) .opening) (list-of (now (list .entry)) .jobs) (list-of (now (list .entry)) .goal) (seen (now (example .exit))) r ⌝ }
 {
-    match judge(1, &list.opening, &list.jobs[0..list.len], &list.goal) {
+    match judge(1, &list.opening, list.jobs(), &list.goal) {
         Verdict::Fine => None,
         Verdict::JobFails(place, fact, holds) => {
             *example = shown(list, fact, holds);

@@ -6,7 +6,7 @@ ghost use Rattle.std.specs.Orderings.{Decides, When};
 ghost use Rattle.facts.specs.States.{mark, named, nothing, added, covers, Covers, same, apart, Apart, within, Within, lowest, overridden, without, missing};
 ghost use Rattle.facts.specs.Models.{row, Leaves};
 ghost use Rattle.facts.specs.Scans.{None-from, First};
-ghost use Rattle.facts.specs.Words.{Empty, Overridden, Without, Missing, One-more, Lowest, Where-ok};
+ghost use Rattle.facts.specs.Words.{Overridden, Without, Missing, One-more, Lowest, Where-ok};
 use crate::mark::Mark;
 use crate::mark::is_named;
 use crate::mark::signed;
@@ -32,7 +32,6 @@ impl State {
     /// The state of no literals.
     pub fn empty() -> State
         ensures value { λ r. ⌜ row r ≡ nothing ⌝ }
-        ensures means { λ r. ⌜ Empty (row r) ⌝ }
     {
         State {
             marks: [Mark::Unnamed; MAX_FACTS],

@@ -7,6 +7,7 @@ ghost use lib.ListN.{length, getD};
 mod calls;
 
 use crate::state::MAX_FACTS;
+pub use calls::WorldReader;
 
 /// The first `count` facts, each holding or not; none past them holds.
 #[derive(Clone, Copy)]

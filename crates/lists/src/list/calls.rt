@@ -1,10 +1,10 @@
 //! Lists made, added to and asked.
 ghost use mathlib.Core.Path.{_≡_};
-ghost use mathlib.Core.Bool.{not};
+ghost use Prim.Native.Nat.{_≤_};
 ghost use lib.ListN.{length};
 ghost use Rattle.facts.specs.Models.{row, job-of, Leaves};
-ghost use Rattle.lists.specs.Lists.{nth};
-ghost use Rattle.lists.specs.Models.{list-of, listed, with-job, mapped-ok, mapped-some};
+ghost use Rattle.lists.specs.Lists.{jobs-of};
+ghost use Rattle.lists.specs.Models.{list-of, listed, with-job, mapped-ok};
 use crate::list::JobList;
 use crate::list::ListFault;
 use crate::list::MAX_JOBS;
@@ -76,21 +76,11 @@ impl JobList {
         &self.goal
     }
 
-    /// The number of jobs.
-    pub fn len(&self) -> usize
-        ensures value { λ r. ⌜ r ≡ length (list-of (now (self .entry)) .jobs) ⌝ }
+    /// The jobs, in their order.
+    pub fn jobs(&self) -> &[Job]
+        ensures value { λ r. ⌜ jobs-of (now r) ≡ list-of (now (self .entry)) .jobs ⌝ }
+        ensures bound { λ r. ⌜ length (now r) ≤ 64 ⌝ }
     {
-        self.len
-    }
-
-    /// The job at a place, from 0.
-    pub fn job(&self, at: usize) -> Option<Job>
-        ensures value { λ r. ⌜ mapped-some job-of r ≡ nth (list-of (now (self .entry)) .jobs) at ⌝ }
-    {
-        if at < self.len {
-            Some(self.jobs[at])
-        } else {
-            None
-        }
+        &self.jobs[0..self.len]
     }
 }

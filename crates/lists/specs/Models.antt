@@ -37,9 +37,12 @@ mapped-ok f (Err e) = Err e
 abbrev pub listed : ℕ → State → State → Result Listed ListFault
 listed n O G = cond (ltb 256 n) (Err TooManyFacts) (cond (within n O && within n G) (Ok (record { facts = n; opening = O; goal = G; jobs = [] })) (Err FactPast))
 
+abbrev pub more : Listed → Job → Listed
+more l j = record { facts = l .facts; opening = l .opening; goal = l .goal; jobs = l .jobs ++ j ∷ [] }
+
 -- one job more: refused after 64, then where it names a fact not below the list's number
 abbrev pub with-job : Listed → Job → Result Listed ListFault
-with-job l j = cond (leb 64 (length (l .jobs))) (Err TooManyJobs) (cond (job-within (l .facts) j) (Ok (record { facts = l .facts; opening = l .opening; goal = l .goal; jobs = l .jobs ++ j ∷ [] })) (Err FactPast))
+with-job l j = cond (leb 64 (length (l .jobs))) (Err TooManyJobs) (cond (job-within (l .facts) j) (Ok (more l j)) (Err FactPast))
 
 -- jobs are counted from 1
 abbrev pub verdict-on : Listed → Verdict

@@ -1,5 +1,8 @@
 //! Worlds made, read and changed.
 ghost use mathlib.Core.Path.{_≡_};
+ghost use mathlib.Core.Bool.{false};
+ghost use Prim.Native.Nat.{_≤_};
+ghost use lib.ListN.{length, getD};
 ghost use Rattle.facts.specs.Worlds.{set-facts, carry};
 ghost use Rattle.facts.specs.Models.{row, job-of, size-of, seen, making-number, Made, Leaves};
 ghost use Rattle.facts.specs.Words.{Sets, Where-ok};
@@ -27,15 +30,10 @@ impl World {
     pub fn new(facts: &[bool]) -> Result<World, WorldFault>
         ensures cases { λ r. ⌜ Made (now (facts .entry)) r ⌝ }
     {
-        let count = facts.len();
-        if count > MAX_FACTS {
+        if facts.len() > MAX_FACTS {
             return Err(WorldFault::TooManyFacts);
         }
-        let mut all = [false; MAX_FACTS];
-        for (i, holds) in facts.iter().enumerate() {
-            all[i] = *holds;
-        }
-        Ok(World { count, facts: all })
+        Ok(World::of(facts))
     }
 
     /// Sets the facts of the state and no other. Refused, with nothing changed, where it names a fact past the number.
@@ -67,6 +65,22 @@ impl World {
             return Err(PastFault::FactPast);
         }
         self.set(&job.effect)
+    }
+
+    /// The world of these facts.
+    fn of(facts: &[bool]) -> World
+        requires { ⌜ length (now facts) ≤ 256 ⌝ }
+        ensures size { λ r. ⌜ size-of r ≡ length (now (facts .entry)) ⌝ }
+        ensures facts { λ r. ⌜ seen r ≡ (λ i. getD (now (facts .entry)) i false) ⌝ }
+    {
+        let mut all = [false; MAX_FACTS];
+        for (i, holds) in facts.iter().enumerate() {
+            all[i] = *holds;
+        }
+        World {
+            count: facts.len(),
+            facts: all,
+        }
     }
 }
 

@@ -1,10 +1,12 @@
 //! Lists made, added to and asked.
 ghost use mathlib.Core.Path.{_≡_};
-ghost use Prim.Native.Nat.{_≤_};
+ghost use mathlib.Core.Bool.{true};
+ghost use Prim.Native.Nat.{_<_, _≤_};
 ghost use lib.ListN.{length};
+ghost use Rattle.facts.specs.Worlds.{job-within};
 ghost use Rattle.facts.specs.Models.{row, job-of, Leaves};
 ghost use Rattle.lists.specs.Lists.{jobs-of};
-ghost use Rattle.lists.specs.Models.{list-of, listed, with-job, mapped-ok};
+ghost use Rattle.lists.specs.Models.{list-of, listed, more, with-job, mapped-ok};
 use crate::list::JobList;
 use crate::list::ListFault;
 use crate::list::MAX_JOBS;
@@ -43,15 +45,13 @@ impl JobList {
     pub fn push(&mut self, job: Job) -> Result<(), ListFault>
         ensures after { λ r. ⌜ Leaves (with-job (list-of (now (self .entry))) (job-of job)) (list-of (now (self .entry))) r (list-of (now (self .exit))) ⌝ }
     {
-        let len = self.len;
-        if len >= MAX_JOBS {
+        if self.len >= MAX_JOBS {
             return Err(ListFault::TooManyJobs);
         }
         if !job.within(self.count) {
             return Err(ListFault::FactPast);
         }
-        self.jobs[len] = job;
-        self.len = len + 1;
+        self.store(job);
         Ok(())
     }
 
@@ -82,5 +82,15 @@ impl JobList {
         ensures bound { λ r. ⌜ length (now r) ≤ 64 ⌝ }
     {
         &self.jobs[0..self.len]
+    }
+
+    /// The job at the end, where there is room for it and it fits.
+    fn store(&mut self, job: Job)
+        requires { ⌜ now self .len < 64 ⌝ ∗ ⌜ job-within (now self .count) (job-of job) ≡ true ⌝ }
+        ensures after { λ _. ⌜ list-of (now (self .exit)) ≡ more (list-of (now (self .entry))) (job-of job) ⌝ }
+    {
+        let len = self.len;
+        self.jobs[len] = job;
+        self.len = len + 1;
     }
 }

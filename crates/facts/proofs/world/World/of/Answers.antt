@@ -7,7 +7,7 @@ use lib.ListN.{getD}
 use Rattle.std.proofs.shelf.Lists.{getD-past}
 use Rattle.std.proofs.shelf.Tests.{cases-lt}
 use Rattle.facts.proofs.Marks.{getD-everywhere}
-use Rattle.facts.proofs.world.World.new.Needs as need
+use Rattle.facts.proofs.world.World.of.Needs as need
 
 pub loop-i-holds : need.loop-i-holds
 loop-i-holds c = (refl, λ k h. absurd (omega arith), λ k h. getD-everywhere 256 k false)
@@ -17,4 +17,4 @@ returns c =
     let told = c .args .facts .now in
     let at : (k : ℕ) → getD (c .loop-i .all) k false ≡ getD told k false =
     λ k. ⊎-elim (λ l. c .loop-i .inv .1 k l) (λ l. c .loop-i .inv .2 k l ∙ sym (getD-past told k false (omega arith))) (cases-lt k (c .loop-i .i)) in
-    record { cases = (c .if-count-gt-MAX-FACTS .left, refl, λ d k. at k d) }
+    record { size = refl; facts = λ d k. at k d }

@@ -91,7 +91,7 @@ fn state(literals: &[(usize, bool)]) -> Option<State> {
     Some(state)
 }
 
-pub fn run(rt: &LibcRuntime) -> Result<(), AnyError> {
+pub(crate) fn run(rt: &LibcRuntime) -> Result<(), AnyError> {
     let Some(hut) = Hut::built_in() else {
         return Err("the built-in table is refused".into());
     };

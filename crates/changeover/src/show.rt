@@ -8,7 +8,11 @@ use std::alloc::AllocError;
 use std::alloc::Global;
 
 /// The state's literals, or "." where it has none.
-pub fn state_text(heap: Global, names: &[&str], state: &State) -> Result<String, AllocError> {
+pub(crate) fn state_text(
+    heap: Global,
+    names: &[&str],
+    state: &State,
+) -> Result<String, AllocError> {
     let mut text = String::new(heap);
     for (fact, name) in names.iter().enumerate() {
         match state.mark(fact) {
@@ -24,7 +28,11 @@ pub fn state_text(heap: Global, names: &[&str], state: &State) -> Result<String,
 }
 
 /// Every fact of the world with its sign.
-pub fn world_text(heap: Global, names: &[&str], world: &World) -> Result<String, AllocError> {
+pub(crate) fn world_text(
+    heap: Global,
+    names: &[&str],
+    world: &World,
+) -> Result<String, AllocError> {
     let mut text = String::new(heap);
     for (fact, name) in names.iter().enumerate() {
         let sign = if world.holds(fact) { "+" } else { "-" };

@@ -12,9 +12,9 @@ use Rattle.facts.specs.Words.{Exactly}
 use Rattle.lists.specs.declared.failure.Verdict.{Verdict}
 use Rattle.lists.specs.declared.failure.Verdict.the-variants.{Fine, JobFails, GoalFails}
 use Rattle.lists.specs.declared.list.JobList.{JobList}
-use Rattle.lists.specs.Lists.{jobs-of, Good}
-use Rattle.lists.specs.Failures.{judged, failure-of, Says}
-use Rattle.lists.specs.Models.{Listed, list-of, verdict-on, Shown}
+use Rattle.lists.specs.Lists.{jobs-of}
+use Rattle.lists.specs.Failures.{judged, failure-of}
+use Rattle.lists.specs.Models.{Listed, list-of, verdict-on, Good-list, Says-of, Shown}
 use Rattle.lists.proofs.Places.{Fits, fits-parts}
 use Rattle.lists.proofs.Verdicts.{Comes, Known, known-fact, says-so, exactly-good}
 
@@ -41,10 +41,10 @@ module _ (l : JobList) where
     pub after-by : Shown (list-of l) (verdict-on (list-of l)) w u
     after-by = subst (λ (x : Verdict). Shown (list-of l) x w u) e s
 
-    pub good-by : Exactly (failure-of v ≡ None) (Good (list-of l .facts) (list-of l .opening) (list-of l .goal) (list-of l .jobs))
+    pub good-by : Exactly (failure-of v ≡ None) (Good-list (list-of l))
     good-by =
-        subst (λ (x : Verdict). Exactly (failure-of x ≡ None) (Good (list-of l .facts) (list-of l .opening) (list-of l .goal) (list-of l .jobs))) (sym e) (exactly-good (list-of l .facts) (list-of l .opening) (list-of l .goal) (list-of l .jobs) inside short)
+        subst (λ (x : Verdict). Exactly (failure-of x ≡ None) (Good-list (list-of l))) (sym e) (exactly-good (list-of l .facts) (list-of l .opening) (list-of l .goal) (list-of l .jobs) inside short)
 
-    pub fails-by : Says (list-of l .facts) (list-of l .opening) (list-of l .jobs) (list-of l .goal) (seen u) (failure-of v)
+    pub fails-by : Says-of (list-of l) (seen u) (failure-of v)
     fails-by =
-        subst (λ (x : Verdict). Says (list-of l .facts) (list-of l .opening) (list-of l .jobs) (list-of l .goal) (seen u) (failure-of x)) (sym e) (says-so (list-of l .facts) (list-of l .opening) (list-of l .goal) (list-of l .jobs) inside short (seen u) (comes (list-of l) (verdict-on (list-of l)) w u after-by))
+        subst (λ (x : Verdict). Says-of (list-of l) (seen u) (failure-of x)) (sym e) (says-so (list-of l .facts) (list-of l .opening) (list-of l .goal) (list-of l .jobs) inside short (seen u) (comes (list-of l) (verdict-on (list-of l)) w u after-by))

@@ -6,9 +6,9 @@ ghost use lib.ListN.{length};
 ghost use Rattle.std.specs.declared.option.Option.the-variants.{None};
 ghost use Rattle.facts.specs.Models.{row, job-of, size-of, seen};
 ghost use Rattle.facts.specs.Words.{Exactly};
-ghost use Rattle.lists.specs.Lists.{Good, jobs-of};
-ghost use Rattle.lists.specs.Failures.{opposite, lacking, at-goal, judged, example, failure-of, failure-number, Says};
-ghost use Rattle.lists.specs.Models.{list-of, verdict-on, Shown};
+ghost use Rattle.lists.specs.Lists.{jobs-of};
+ghost use Rattle.lists.specs.Failures.{opposite, lacking, at-goal, judged, example, failure-of, failure-number};
+ghost use Rattle.lists.specs.Models.{list-of, verdict-on, Good-list, Says-of, Shown};
 use crate::list::JobList;
 use facts::Job;
 use facts::MAX_FACTS;
@@ -48,8 +48,8 @@ impl Failure {
 pub fn first_failure(list: &JobList, example: &mut World) -> Option<Failure>
     ensures value { λ r. ⌜ r ≡ failure-of (verdict-on (list-of (now (list .entry)))) ⌝ }
     ensures after { λ _. ⌜ Shown (list-of (now (list .entry))) (verdict-on (list-of (now (list .entry)))) (now (example .entry)) (now (example .exit)) ⌝ }
-    ensures good { λ r. ⌜ Exactly (r ≡ None) (Good (list-of (now (list .entry)) .facts) (list-of (now (list .entry)) .opening) (list-of (now (list .entry)) .goal) (list-of (now (list .entry)) .jobs)) ⌝ }
-    ensures fails { λ r. ⌜ Says (list-of (now (list .entry)) .facts) (list-of (now (list .entry)) .opening) (list-of (now (list .entry)) .jobs) (list-of (now (list .entry)) .goal) (seen (now (example .exit))) r ⌝ }
+    ensures good { λ r. ⌜ Exactly (r ≡ None) (Good-list (list-of (now (list .entry)))) ⌝ }
+    ensures fails { λ r. ⌜ Says-of (list-of (now (list .entry))) (seen (now (example .exit))) r ⌝ }
 {
     match judge(1, &list.opening, list.jobs(), &list.goal) {
         Verdict::Fine => None,

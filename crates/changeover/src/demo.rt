@@ -1,6 +1,11 @@
 //! The changeover of one hut: its table, a list that is good, its jobs carried out, and a list that is not good.
+use crate::quit::Quit;
+use crate::quit::QuitFromAlloc;
+use crate::quit::QuitFromIo;
+use crate::quit::QuitFromText;
 use crate::show::state_text;
 use crate::show::world_text;
+use crate::tables::print_table;
 use facts::Job;
 use facts::State;
 use facts::World;
@@ -9,132 +14,87 @@ use facts::meets;
 use lists::Failure;
 use lists::JobList;
 use lists::first_failure;
-use std::error::AnyError;
+use table::FactNamed;
+use table::Table;
+use text::Place;
+use text::read_state;
 
-const FREE: usize = 0;
+const TABLE: &[u8] =
+    b"N\tfree\nN\tclean\nN\tgas\nD\tsweep\t+free -gas\t+clean\nD\topen_gas\t+clean\t+gas\n";
 
-const CLEAN: usize = 1;
+const OPENING: &[u8] = b"+free -gas";
 
-const GAS: usize = 2;
+const GOAL: &[u8] = b"+clean +gas";
 
-const FACTS: [&str; 3] = ["free", "clean", "gas"];
-
-/// The hut's jobs.
-#[derive(Clone, Copy)]
-enum Chore {
-    Sweep,
-    OpenGas,
-}
-
-impl Chore {
-    fn name(self) -> &'static str {
-        match self {
-            Chore::Sweep => "sweep",
-            Chore::OpenGas => "open_gas",
-        }
-    }
-}
-
-/// What the jobs are, and the opening and goal of the changeover.
+/// The hut's table, and the opening and goal of its changeover.
 #[derive(Clone, Copy)]
 struct Hut {
-    sweep: Job,
-    open_gas: Job,
+    table: Table,
     opening: State,
     goal: State,
 }
 
 impl Hut {
     fn built_in() -> Option<Hut> {
-        let sweep = job(&[(FREE, true), (GAS, false)], &[(CLEAN, true)])?;
-        let open_gas = job(&[(CLEAN, true)], &[(GAS, true)])?;
-        let opening = state(&[(FREE, true), (GAS, false)])?;
-        let goal = state(&[(CLEAN, true), (GAS, true)])?;
+        let table = Table::read(TABLE).ok()?;
+        let at = Place { line: 1, field: 1 };
+        let opening = read_state(OPENING, table.facts(), at).ok()?;
+        let goal = read_state(GOAL, table.facts(), at).ok()?;
         Some(Hut {
-            sweep,
-            open_gas,
+            table,
             opening,
             goal,
         })
     }
 
-    fn job(&self, chore: Chore) -> Job {
-        match chore {
-            Chore::Sweep => self.sweep,
-            Chore::OpenGas => self.open_gas,
-        }
+    /// The job of this name.
+    fn job(&self, name: &str) -> Option<Job> {
+        let place = self.table.find_job(name.as_bytes())?;
+        let row = self.table.jobs().get(place)?;
+        Some(row.job)
     }
 
-    fn list(&self, chores: [Chore; 2]) -> Option<JobList> {
-        let mut list = JobList::new(FACTS.len(), self.opening, self.goal).ok()?;
-        for chore in chores {
-            list.push(self.job(chore)).ok()?;
+    fn list(&self, names: [&str; 2]) -> Option<JobList> {
+        let count = self.table.fact_count();
+        let mut list = JobList::new(count, self.opening, self.goal).ok()?;
+        for name in names {
+            list.push(self.job(name)?).ok()?;
         }
         Some(list)
     }
 }
 
-fn job(needs: &[(usize, bool)], sets: &[(usize, bool)]) -> Option<Job> {
-    let precondition = state(needs)?;
-    let effect = state(sets)?;
-    Some(Job {
-        precondition,
-        effect,
-    })
-}
-
-fn state(literals: &[(usize, bool)]) -> Option<State> {
-    let mut state = State::empty();
-    for (fact, holds) in literals {
-        state.add(*fact, *holds).ok()?;
-    }
-    Some(state)
-}
-
-pub(crate) fn run(rt: &LibcRuntime) -> Result<(), AnyError> {
+pub(crate) fn run(rt: &LibcRuntime) -> Result<(), Quit> {
     let Some(hut) = Hut::built_in() else {
         return Err("the built-in table is refused".into());
     };
     print_hut(rt, &hut)?;
-    if judge(rt, &hut, [Chore::Sweep, Chore::OpenGas])? {
-        carry_out(rt, &hut, [Chore::Sweep, Chore::OpenGas])?;
+    if judge(rt, &hut, ["sweep", "open_gas"])? {
+        carry_out(rt, &hut, ["sweep", "open_gas"])?;
     }
-    let _good = judge(rt, &hut, [Chore::OpenGas, Chore::Sweep])?;
+    let _good = judge(rt, &hut, ["open_gas", "sweep"])?;
     Ok(())
 }
 
-fn print_hut(rt: &LibcRuntime, hut: &Hut) -> Result<(), AnyError> {
+fn print_hut(rt: &LibcRuntime, hut: &Hut) -> Result<(), Quit> {
     let heap = rt.alloc();
-    println!(rt, "facts")?;
-    for (fact, name) in FACTS.iter().enumerate() {
-        println!(rt, "  {fact} {name}")?;
-    }
-    println!(rt, "jobs")?;
-    for chore in [Chore::Sweep, Chore::OpenGas] {
-        let name = chore.name();
-        let job = hut.job(chore);
-        let needs = state_text(heap, &FACTS, &job.precondition)?;
-        let sets = state_text(heap, &FACTS, &job.effect)?;
-        println!(rt, "  {name} needs {needs} sets {sets}")?;
-    }
-    let opening = state_text(heap, &FACTS, &hut.opening)?;
-    let goal = state_text(heap, &FACTS, &hut.goal)?;
+    print_table(rt, &hut.table)?;
+    let opening = state_text(heap, &hut.table, &hut.opening)?;
+    let goal = state_text(heap, &hut.table, &hut.goal)?;
     println!(rt, "opening {opening}")?;
     println!(rt, "goal {goal}")?;
     Ok(())
 }
 
 /// Tells whether the list of these jobs is good, and else what fails first and in which world.
-fn judge(rt: &LibcRuntime, hut: &Hut, chores: [Chore; 2]) -> Result<bool, AnyError> {
-    let Some(list) = hut.list(chores) else {
+fn judge(rt: &LibcRuntime, hut: &Hut, names: [&str; 2]) -> Result<bool, Quit> {
+    let Some(list) = hut.list(names) else {
         return Err("the built-in list is refused".into());
     };
     let Ok(mut example) = World::new(&[]) else {
         return Err("the empty world is refused".into());
     };
-    let [first, second] = chores;
-    let first = first.name();
-    let second = second.name();
+    let [first, second] = names;
     println!(rt, "")?;
     println!(rt, "list {first}, {second}")?;
     match first_failure(&list, &mut example) {
@@ -151,23 +111,25 @@ fn judge(rt: &LibcRuntime, hut: &Hut, chores: [Chore; 2]) -> Result<bool, AnyErr
         }
         Some(Failure::Goal) => println!(rt, "not good: the goal fails in this world")?,
     }
-    print_world(rt, &example)?;
+    print_world(rt, hut, &example)?;
     Ok(false)
 }
 
 /// Carries the jobs out in turn on a world in which only `free` holds.
-fn carry_out(rt: &LibcRuntime, hut: &Hut, chores: [Chore; 2]) -> Result<(), AnyError> {
+fn carry_out(rt: &LibcRuntime, hut: &Hut, names: [&str; 2]) -> Result<(), Quit> {
     let Ok(mut world) = World::new(&[true, false, false]) else {
         return Err("the built-in world is refused".into());
     };
-    print_world(rt, &world)?;
-    for chore in chores {
-        let name = chore.name();
-        let Ok(()) = world.carry(&hut.job(chore)) else {
+    print_world(rt, hut, &world)?;
+    for name in names {
+        let Some(job) = hut.job(name) else {
+            return Err("the built-in table lacks a job".into());
+        };
+        let Ok(()) = world.carry(&job) else {
             return Err("a built-in job is refused".into());
         };
         println!(rt, "carried {name}")?;
-        print_world(rt, &world)?;
+        print_world(rt, hut, &world)?;
     }
     let met = if meets(&world, &hut.goal) {
         "met"
@@ -178,8 +140,8 @@ fn carry_out(rt: &LibcRuntime, hut: &Hut, chores: [Chore; 2]) -> Result<(), AnyE
     Ok(())
 }
 
-fn print_world(rt: &LibcRuntime, world: &World) -> Result<(), AnyError> {
-    let facts = world_text(rt.alloc(), &FACTS, world)?;
+fn print_world(rt: &LibcRuntime, hut: &Hut, world: &World) -> Result<(), Quit> {
+    let facts = world_text(rt.alloc(), &hut.table, world)?;
     println!(rt, "world {facts}")?;
     Ok(())
 }

@@ -8,11 +8,11 @@ use Rattle.std.specs.Options.{isSome}
 use Rattle.std.proofs.shelf.Lists.{take-more-set, map-push}
 use Rattle.std.proofs.shelf.Tests.{and-parts, and-from, not-from-false}
 use Rattle.facts.specs.Worlds.{job-within}
-use Rattle.text.specs.Names.{every, good-name, found-at}
+use Rattle.text.specs.Names.{every, good-name, found-at, distinct-from, proper-names}
 use Rattle.text.specs.Models.{spelling}
-use Rattle.table.specs.declared.rows.FactRow.{FactRow}
-use Rattle.table.specs.declared.rows.JobRow.{JobRow}
-use Rattle.table.specs.Rows.{Row, row-of, rows-of, titles, job-titles, job-names, distinct-from, proper-names, proper-jobs}
+use Rattle.table.specs.declared.fact_row.FactRow.{FactRow}
+use Rattle.table.specs.declared.job_row.JobRow.{JobRow}
+use Rattle.table.specs.Rows.{Row, row-of, rows-of, titles, job-titles, job-names, proper-jobs}
 
 every-push : {X : Type 0} (p : X → Bool) (xs : List X) (x : X) → every p xs ≡ true → p x ≡ true → every p (xs ++ x ∷ []) ≡ true
 every-push p [] x h k = and-from (p x) true k refl

@@ -1,14 +1,13 @@
 -- Rows, and which of them may stand in a table.
-use mathlib.Core.Bool.{Bool, true, not, _&&_}
-use mathlib.Core.List.{List, [], _∷_, _++_, map}
+use mathlib.Core.Bool.{Bool, _&&_}
+use mathlib.Core.List.{List, map}
 use Prim.Native.Nat.{ℕ}
-use Rattle.std.specs.Options.{isSome}
 use Rattle.facts.specs.Worlds.{Job, job-within}
 use Rattle.facts.specs.Models.{job-of}
-use Rattle.text.specs.Names.{every, good-name, found-at}
+use Rattle.text.specs.Names.{every, proper-names}
 use Rattle.text.specs.Models.{spelling}
-use Rattle.table.specs.declared.rows.FactRow.{FactRow}
-use Rattle.table.specs.declared.rows.JobRow as code
+use Rattle.table.specs.declared.fact_row.FactRow.{FactRow}
+use Rattle.table.specs.declared.job_row.JobRow as code
 
 -- a job and its name
 pub record Row : Type 0 where
@@ -29,15 +28,6 @@ job-titles rs = map (λ (r : code.JobRow). spelling (r .name)) rs
 
 abbrev pub job-names : List Row → List (List ℕ)
 job-names rs = map (λ (r : Row). r .name) rs
-
--- none of the names is one of those seen, or an earlier one
-abbrev pub distinct-from : List (List ℕ) → List (List ℕ) → Bool
-distinct-from seen [] = true
-distinct-from seen (n ∷ ns) = not (isSome (found-at n seen)) && distinct-from (seen ++ n ∷ []) ns
-
--- well formed and distinct
-abbrev pub proper-names : List (List ℕ) → Bool
-proper-names ns = every good-name ns && distinct-from [] ns
 
 abbrev pub proper-facts : List (List ℕ) → Bool
 proper-facts ns = proper-names ns

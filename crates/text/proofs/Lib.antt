@@ -1,4 +1,10 @@
+pub mod Undoing
 pub mod Cuts
+pub mod Joins
 pub mod Bytes
 pub mod Looking
+pub mod Reading
 pub mod Inside
+pub mod Writing
+pub mod Endings
+pub mod Outcomes

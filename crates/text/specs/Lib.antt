@@ -1,8 +1,9 @@
 pub mod Chains
 pub mod Faults
-pub mod Looks
 pub mod Lines
-pub mod Tags
 pub mod Names
+pub mod Spelling
+pub mod Looks
+pub mod Tags
 pub mod Literals
 pub mod Models

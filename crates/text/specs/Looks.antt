@@ -1,15 +1,20 @@
 -- The look over a whole text.
-use mathlib.Core.Bool.{Bool, true, false, cond, _&&_}
-use mathlib.Core.List.{List, [], _∷_}
-use Prim.Native.Nat.{ℕ, _+_}
+use mathlib.Core.Path.{_≡_}
+use mathlib.Core.Bool.{Bool, true, false, cond, _&&_, _||_}
+use mathlib.Core.List.{List, [], _∷_, _++_}
+use Prim.Native.Nat.{ℕ, suc, _+_, _<_, _≤_}
 use lib.Dec.{eqb, ltb, leb}
 use lib.ListN.{length}
 use Rattle.std.specs.declared.result.Result.{Result}
 use Rattle.std.specs.declared.result.Result.the-variants.{Ok, Err}
 use Rattle.text.specs.declared.fault.TextFault.{TextFault}
-use Rattle.text.specs.declared.fault.TextFault.the-variants.{TooLong, BadByte, Unended}
+use Rattle.text.specs.declared.fault.TextFault.the-variants.{TooLong, BadByte, Unended, BadName, NoSign, UnknownName, FactTwice}
+use Rattle.text.specs.declared.fault.Place.{Place}
 use Rattle.text.specs.declared.whole.Cursor.{Cursor}
 use Rattle.text.specs.Chains.{then, unless}
+use Rattle.text.specs.Lines.{lines}
+use Rattle.text.specs.Names.{every}
+use Rattle.text.specs.Spelling.{closed}
 
 pub data Kind : Type 0 where
   newline : Kind
@@ -45,3 +50,45 @@ start = record { line = 1; field = 1; fresh = true }
 -- too long, else the first bad byte, else a last line that is not ended
 abbrev pub looked : List ℕ → Result (Unit {0}) TextFault
 looked s = unless (ltb 1048576 (length s)) TooLong (λ _. then (passed start s) ended)
+
+-- a byte that a text may have
+abbrev pub text-byte : ℕ → Bool
+text-byte b = eqb b 10 || (eqb b 9 || (leb 32 b && leb b 126))
+
+-- a text: at most 1,048,576 bytes, each one that a text may have, and every line ended
+pub record Proper (s : List ℕ) : Type 0 where
+  pub short : length s ≤ 1048576
+  pub bytes : every text-byte s ≡ true
+  pub lined : closed (lines s) ≡ s
+
+-- how often 0A stands in s
+abbrev pub newlines : List ℕ → ℕ
+newlines [] = 0
+newlines (b ∷ s) = cond (eqb b 10) (suc (newlines s)) (newlines s)
+
+-- the field in which the byte after s stands, where s begins in field n
+abbrev pub field-after : ℕ → List ℕ → ℕ
+field-after n [] = n
+field-after n (b ∷ s) = cond (eqb b 10) (field-after 1 s) (cond (eqb b 9) (field-after (n + 1) s) (field-after n s))
+
+-- the first byte of s that no text has stands on line k + the lines before it, in the field that follows field n
+pub record First-bad (k n : ℕ) (s : List ℕ) (at : Place) : Type 0 where
+  pub before : List ℕ
+  pub byte : ℕ
+  pub after : List ℕ
+  pub split : s ≡ before ++ byte ∷ after
+  pub good : every text-byte before ≡ true
+  pub bad : text-byte byte ≡ false
+  pub line : at .line ≡ k + newlines before
+  pub field : at .field ≡ field-after n before
+
+-- what the look over a text answers
+abbrev pub Looks : List ℕ → Result (Unit {0}) TextFault → Type 0
+Looks s (Ok u) = Proper s
+Looks s (Err TooLong) = 1048576 < length s
+Looks s (Err (BadByte at)) = (length s ≤ 1048576) × First-bad 1 1 s at
+Looks s (Err (Unended line)) = (length s ≤ 1048576) × (every text-byte s ≡ true) × (closed (lines s) ≡ s → ⊥) × (line ≡ 1 + newlines s)
+Looks s (Err (BadName at)) = ⊥
+Looks s (Err (NoSign at)) = ⊥
+Looks s (Err (UnknownName at)) = ⊥
+Looks s (Err (FactTwice at)) = ⊥

@@ -1,10 +1,11 @@
 -- Names, and rows found by name.
 use mathlib.Core.Path.{_≡_}
 use mathlib.Core.Bool.{Bool, true, false, cond, not, _&&_, _||_}
-use mathlib.Core.List.{List, [], _∷_}
+use mathlib.Core.List.{List, [], _∷_, _++_}
 use Prim.Native.Nat.{ℕ, _+_, _<_}
 use lib.Dec.{eqb, ltb, leb}
 use lib.ListN.{length, getD}
+use Rattle.std.specs.Options.{isSome}
 use Rattle.std.specs.declared.option.Option.{Option}
 use Rattle.std.specs.declared.option.Option.the-variants.{Some, None}
 use Rattle.std.specs.declared.result.Result.{Result}
@@ -44,9 +45,23 @@ found-from i n (x ∷ xs) = cond (same-name x n) (Some i) (found-from (i + 1) n 
 abbrev pub found-at : List ℕ → List (List ℕ) → Option ℕ
 found-at n xs = found-from 0 n xs
 
+-- the answer is the place of the first name that is n, or there is none
+abbrev pub First-of : List (List ℕ) → List ℕ → Option ℕ → Type 0
+First-of xs n None = (i : ℕ) → i < length xs → getD xs i [] ≡ n → ⊥
+First-of xs n (Some i) = (i < length xs) × (getD xs i [] ≡ n) × ((k : ℕ) → k < i → getD xs k [] ≡ n → ⊥)
+
 -- the name in a field
 abbrev pub name-field : List ℕ → Place → Result (List ℕ) TextFault
 name-field s at = unless (not (good-name s)) (BadName at) (λ _. Ok s)
+
+-- none of the names is one of those seen, or an earlier one
+abbrev pub distinct-from : List (List ℕ) → List (List ℕ) → Bool
+distinct-from seen [] = true
+distinct-from seen (n ∷ ns) = not (isSome (found-at n seen)) && distinct-from (seen ++ n ∷ []) ns
+
+-- well formed and distinct
+abbrev pub proper-names : List (List ℕ) → Bool
+proper-names ns = every good-name ns && distinct-from [] ns
 
 -- the same, byte by byte, for the contracts of the loops
 abbrev pub All-in-name : List ℕ → Type 0

@@ -4,7 +4,7 @@ ghost use Rattle.text.specs.Tags.{tag-of, by-letter};
 use crate::lines::field;
 
 /// The tags that texts have, and `Other` for any other first field.
-#[derive(Clone, Copy, PartialEq, Eq, Debug)]
+#[derive(Clone, Copy)]
 pub enum Tag {
     N,
     D,

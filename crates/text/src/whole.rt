@@ -1,7 +1,7 @@
 //! The look over a whole text, before any line is read.
 ghost use mathlib.Core.Path.{_≡_};
 ghost use Prim.Native.Nat.{_≤_};
-ghost use Rattle.text.specs.Looks.{stepped, looked};
+ghost use Rattle.text.specs.Looks.{stepped, looked, Looks};
 use crate::fault::Place;
 use crate::fault::TextFault;
 
@@ -18,6 +18,13 @@ pub(crate) struct Cursor {
 
 /// The faults of a whole text: too long; the first byte outside 20 to 7E, 09 and 0A; a last line that is not ended.
 pub fn look(text: &[u8]) -> Result<(), TextFault>
+    ensures value { λ r. ⌜ r ≡ looked (now (text .entry)) ⌝ }
+    ensures means { λ r. ⌜ Looks (now (text .entry)) r ⌝ }
+{
+    pass_over(text)
+}
+
+fn pass_over(text: &[u8]) -> Result<(), TextFault>
     ensures value { λ r. ⌜ r ≡ looked (now (text .entry)) ⌝ }
 {
     if text.len() > MAX_BYTES {

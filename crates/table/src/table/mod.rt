@@ -8,8 +8,8 @@ ghost use Rattle.table.specs.Rows.{titles, rows-of, proper-facts, proper-jobs}
 mod questions;
 mod read;
 
-use crate::rows::FactRow;
-use crate::rows::JobRow;
+use crate::fact_row::FactRow;
+use crate::job_row::JobRow;
 use facts::MAX_FACTS;
 
 /// The most jobs that a table has.

@@ -4,10 +4,10 @@ ghost use lib.ListN.{length};
 ghost use Rattle.text.specs.Names.{found-at};
 ghost use Rattle.table.specs.Rows.{titles, job-titles, rows-of, job-names};
 ghost use Rattle.table.specs.Models.{table-of};
-use crate::rows::FactNamed;
-use crate::rows::FactRow;
-use crate::rows::JobNamed;
-use crate::rows::JobRow;
+use crate::fact_row::FactNamed;
+use crate::fact_row::FactRow;
+use crate::job_row::JobNamed;
+use crate::job_row::JobRow;
 use crate::table::Table;
 use text::find;
 

@@ -13,13 +13,14 @@ ghost use Rattle.text.specs.Names.{good-name, found-at};
 ghost use Rattle.text.specs.Models.{spelling, mapped-ok, Kept};
 ghost use Rattle.table.specs.Rows.{row-of, titles, job-names};
 ghost use Rattle.table.specs.Tables.{no-rows, with-fact, with-job, place, new-name, job-states, fact-line, job-line, table-line, table-lines, read-table};
+ghost use Rattle.table.specs.Grammar.{Read-exactly};
 ghost use Rattle.table.specs.Models.{table-of};
+use crate::fact_row::FactNamed;
+use crate::fact_row::FactRow;
 use crate::fault::TableFault;
 use crate::fault::TableFromText;
-use crate::rows::FactNamed;
-use crate::rows::FactRow;
-use crate::rows::JobNamed;
-use crate::rows::JobRow;
+use crate::job_row::JobNamed;
+use crate::job_row::JobRow;
 use crate::table::MAX_TABLE_JOBS;
 use crate::table::Table;
 use facts::Job;
@@ -39,6 +40,14 @@ use text::read_state;
 impl Table {
     /// The table in a text, or the first fault.
     pub fn read(text: &[u8]) -> Result<Table, TableFault>
+        ensures value { λ r. ⌜ mapped-ok table-of r ≡ read-table (now (text .entry)) ⌝ }
+        ensures grammar { λ r. ⌜ Read-exactly (now (text .entry)) (mapped-ok table-of r) ⌝ }
+    {
+        Table::parse(text)
+    }
+
+    /// The look over the whole text, then its lines in turn.
+    fn parse(text: &[u8]) -> Result<Table, TableFault>
         ensures value { λ r. ⌜ mapped-ok table-of r ≡ read-table (now (text .entry)) ⌝ }
     {
         look(text)?;

@@ -7,7 +7,7 @@ ghost use lib.ListN.{length, getD};
 ghost use denote.Ref.{now};
 ghost use Rattle.std.specs.Orderings.{When};
 ghost use Rattle.std.specs.Vec.{made};
-ghost use Rattle.text.specs.Names.{letter, in-name, every, good-name, All-in-name, Alike, same-name, found-at, name-field};
+ghost use Rattle.text.specs.Names.{letter, in-name, every, good-name, All-in-name, Alike, same-name, found-at, First-of, name-field};
 ghost use Rattle.text.specs.Models.{spelling, mapped-ok};
 use crate::fault::Place;
 use crate::fault::TextFault;
@@ -25,6 +25,13 @@ pub trait Named {
 
 /// The place of the first row of this name.
 pub fn find<R: Named>(rows: &[R], name: &[u8]) -> Option<usize>
+    ensures value { λ r. ⌜ r ≡ found-at (now (name .entry)) (map (R·Named .title) (now (rows .entry))) ⌝ }
+    ensures means { λ r. ⌜ First-of (map (R·Named .title) (now (rows .entry))) (now (name .entry)) r ⌝ }
+{
+    first_row(rows, name)
+}
+
+fn first_row<R: Named>(rows: &[R], name: &[u8]) -> Option<usize>
     ensures value { λ r. ⌜ r ≡ found-at (now (name .entry)) (map (R·Named .title) (now (rows .entry))) ⌝ }
 {
     for (i, row) in rows.iter().enumerate() {

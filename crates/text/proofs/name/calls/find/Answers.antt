@@ -1,14 +1,11 @@
-use mathlib.Core.Path.{sym, _∙_}
-use Rattle.text.proofs.Bytes.{found-here, found-later, found-none}
+use mathlib.Core.Path.{sym, subst}
+use mathlib.Core.List.{map}
+use Rattle.text.specs.Names.{First-of}
+use Rattle.text.proofs.Reading.{first-found}
 use Rattle.text.proofs.name.calls.find.Needs as need
 
-pub returns-then-same-name : need.returns-then-same-name
-returns-then-same-name g c =
-    record { value = sym (found-here (g .R·Named .title) (c .args .name .now) (c .args .rows .now) (c .loop-i .i) _ (c .loop-i-test .taken) (c .index-rows-i .is) _ (c .name .ensures .value) (c .if-same-name .ensures tt .value)) ∙ c .loop-i .inv }
-
-pub loop-i-again : need.loop-i-again
-loop-i-again g c =
-    sym (found-later (g .R·Named .title) (c .args .name .now) (c .args .rows .now) (c .loop-i .i) _ (c .loop-i-test .taken) (c .index-rows-i .is) _ (c .name .ensures .value) (c .if-same-name .ensures tt .value)) ∙ c .loop-i .inv
-
 pub returns : need.returns
-returns g c = record { value = sym (found-none (g .R·Named .title) (c .args .name .now) (c .args .rows .now) (c .loop-i .i) (c .loop-i-test .left)) ∙ c .loop-i .inv }
+returns g c =
+    let names = map (g .R·Named .title) (c .args .rows .now) in
+    let is = c .first-row .ensures .value in
+    record { value = is; means = subst (First-of names (c .args .name .now)) (sym is) (first-found names (c .args .name .now)) }

@@ -28,6 +28,11 @@ size-of w = w .count
 abbrev pub seen : code-world.World → World
 seen w = λ i. getD (w .facts) i false
 
+-- an answer, with its value in the words of the definitions
+abbrev pub mapped-ok : {X Y E : Type 0} → (X → Y) → Result X E → Result Y E
+mapped-ok f (Ok x) = Ok (f x)
+mapped-ok f (Err e) = Err e
+
 -- a call that changes one thing: it leaves what the definition gives, or refuses and leaves it as it was
 abbrev pub Leaves : {X E : Type 0} → Result X E → X → Result (Unit {0}) E → X → Type 0
 Leaves (Ok y) x r z = (r ≡ Ok tt) × (z ≡ y)

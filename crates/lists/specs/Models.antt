@@ -31,10 +31,6 @@ pub record Listed : Type 0 where
 abbrev pub list-of : JobList → Listed
 list-of l = record { facts = l .count; opening = row (l .opening); goal = row (l .goal); jobs = jobs-of (take (l .len) (l .jobs)) }
 
-abbrev pub mapped-ok : {X Y E : Type 0} → (X → Y) → Result X E → Result Y E
-mapped-ok f (Ok x) = Ok (f x)
-mapped-ok f (Err e) = Err e
-
 -- the list of no jobs: refused with more than 256 facts, then where a state names a fact not below n
 abbrev pub listed : ℕ → State → State → Result Listed ListFault
 listed n O G = cond (ltb 256 n) (Err TooManyFacts) (cond (within n O && within n G) (Ok (record { facts = n; opening = O; goal = G; jobs = [] })) (Err FactPast))

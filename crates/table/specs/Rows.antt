@@ -29,9 +29,6 @@ job-titles rs = map (λ (r : code.JobRow). spelling (r .name)) rs
 abbrev pub job-names : List Row → List (List ℕ)
 job-names rs = map (λ (r : Row). r .name) rs
 
-abbrev pub proper-facts : List (List ℕ) → Bool
-proper-facts ns = proper-names ns
-
 -- well formed and distinct, and naming only facts below n
 abbrev pub proper-jobs : ℕ → List Row → Bool
 proper-jobs n rs = proper-names (job-names rs) && every (λ (r : Row). job-within n (r .job)) rs

@@ -14,7 +14,7 @@ use Rattle.std.specs.declared.result.Result.the-variants.{Ok, Err}
 use Rattle.facts.specs.declared.state.State as code
 use Rattle.facts.specs.declared.mark.Mark.the-variants.{Unnamed}
 use Rattle.facts.specs.States.{State, mark, named, sign, Within, within, nothing}
-use Rattle.facts.specs.Models.{row}
+use Rattle.facts.specs.Models.{row, mapped-ok}
 use Rattle.facts.proofs.Marks.{mark-nothing, unnamed-not}
 use Rattle.facts.proofs.Tests.{within-decides}
 use Rattle.text.specs.declared.fault.Place.{Place}
@@ -23,7 +23,6 @@ use Rattle.text.specs.Chains.{then}
 use Rattle.text.specs.Lines.{parts}
 use Rattle.text.specs.Names.{same-name}
 use Rattle.text.specs.Literals.{literal, literals, parted, state-field}
-use Rattle.text.specs.Models.{mapped-ok}
 use Rattle.text.proofs.Reading.{literal-read}
 
 within-set : (n : ℕ) (s : State) (i : ℕ) (b : Bool) → i < n → Within n s → Within n (set s i (sign b))

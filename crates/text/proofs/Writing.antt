@@ -120,12 +120,12 @@ module _ (facts : List (List ℕ)) (proper : proper-names facts ≡ true) (few :
   sign-spaceless true e = omega arith
   sign-spaceless false e = omega arith
 
-  spell-spaceless : (n : ℕ) (l : Literal) → l .0 < length facts → Free 32 (spell facts l)
-  spell-spaceless n l h = (sign-spaceless (l .1), every-all in-name (λ b. b ≡ 32 → ⊥) name-spaceless (getD facts (l .0) []) (good-bytes (getD facts (l .0) []) (every-at good-name facts [] good (l .0) h)))
+  spell-spaceless : (l : Literal) → l .0 < length facts → Free 32 (spell facts l)
+  spell-spaceless l h = (sign-spaceless (l .1), every-all in-name (λ b. b ≡ 32 → ⊥) name-spaceless (getD facts (l .0) []) (good-bytes (getD facts (l .0) []) (every-at good-name facts [] good (l .0) h)))
 
   all-spaceless : (ls : List Literal) (s t : State) → Adds (length facts) s ls t → All (Free 32) (map (spell facts) ls)
   all-spaceless [] s t a = tt
-  all-spaceless (l ∷ ls) s t a = (spell-spaceless 0 l (a .0), all-spaceless ls (set s (l .0) (sign (l .1))) t (a .2))
+  all-spaceless (l ∷ ls) s t a = (spell-spaceless l (a .0), all-spaceless ls (set s (l .0) (sign (l .1))) t (a .2))
 
   not-dot : (l : Literal) (ls : List Literal) → same-name (join 32 (map (spell facts) (l ∷ ls))) (46 ∷ []) ≡ false
   not-dot l [] = go (l .1)

@@ -11,10 +11,6 @@ use Rattle.text.specs.declared.name.Name.{Name}
 abbrev pub spelling : Name → List ℕ
 spelling n = take (n .len) (n .bytes)
 
-abbrev pub mapped-ok : {X Y E : Type 0} → (X → Y) → Result X E → Result Y E
-mapped-ok f (Ok x) = Ok (f x)
-mapped-ok f (Err e) = Err e
-
 -- at Ok the value is that of the definition; at Err the fault is
 abbrev pub Kept : {X E : Type 0} → Result (Unit {0}) E → Result X E → X → Type 0
 Kept (Ok u) o x = o ≡ Ok x

@@ -3,9 +3,14 @@ use mathlib.Core.Path.{_≡_}
 use mathlib.Core.Bool.{Bool, true, false}
 use mathlib.Core.Logic.{_⊎_}
 use mathlib.Core.List.{List, [], _∷_, _++_, map}
-use Prim.Native.Nat.{ℕ, _<_}
+use Prim.Native.Nat.{ℕ, _<_, _≤_}
 use lib.ListN.{length, getD, set}
 use Rattle.facts.specs.declared.mark.Mark.the-variants.{Unnamed}
+use Rattle.std.specs.declared.result.Result.{Result}
+use Rattle.std.specs.declared.result.Result.the-variants.{Ok}
+use Rattle.facts.specs.Words.{Exactly}
+use Rattle.text.specs.declared.fault.TextFault.{TextFault}
+use Rattle.text.specs.Names.{proper-names}
 use Rattle.facts.specs.States.{State, mark, sign, nothing}
 
 -- parts joined by k
@@ -46,3 +51,7 @@ pub record Spelt (facts : List (List ℕ)) (f : List ℕ) (s : State) : Type 0 w
 -- the field f spells the state s over facts of these names: "." is the empty state
 abbrev pub Denotes : List (List ℕ) → List ℕ → State → Type 0
 Denotes facts f s = ((f ≡ 46 ∷ []) × (s ≡ nothing)) ⊎ Spelt facts f s
+
+-- over well formed, distinct names of at most 256 facts, a state is read exactly when the field spells it
+abbrev pub Spells-exactly : List (List ℕ) → List ℕ → Result State TextFault → Type 0
+Spells-exactly facts f r = proper-names facts ≡ true → length facts ≤ 256 → (s : State) → Exactly (r ≡ Ok s) (Denotes facts f s)

@@ -5,10 +5,11 @@ ghost use mathlib.Core.List.{map};
 ghost use lib.ListN.{length};
 ghost use Rattle.std.specs.Vec.{made};
 ghost use Rattle.facts.specs.States.{within};
-ghost use Rattle.facts.specs.Models.{row};
+ghost use Rattle.facts.specs.Models.{row, mapped-ok};
 ghost use Rattle.text.specs.Lines.{parts};
 ghost use Rattle.text.specs.Literals.{sign-of, name-of, literal, literals, state-field};
-ghost use Rattle.text.specs.Models.{mapped-ok, Kept};
+ghost use Rattle.text.specs.Spelling.{Spells-exactly};
+ghost use Rattle.text.specs.Models.{Kept};
 use crate::fault::Place;
 use crate::fault::TextFault;
 use crate::lines::cut;
@@ -24,6 +25,7 @@ const SPACE: u8 = 0x20;
 /// The state in a field, over facts whose rows have these names, or the first literal's fault.
 pub fn read_state<R: Named>(field: &[u8], facts: &[R], at: Place) -> Result<State, TextFault>
     ensures value { λ r. ⌜ mapped-ok row r ≡ state-field (map (R·Named .title) (now (facts .entry))) at (now (field .entry)) ⌝ }
+    ensures grammar { λ r. ⌜ Spells-exactly (map (R·Named .title) (now (facts .entry))) (now (field .entry)) (mapped-ok row r) ⌝ }
     ensures within { λ r. ⌜ made r (λ s. within (length (now (facts .entry))) (row s) ≡ true) ⌝ }
 {
     read_literals(field, facts, at)

@@ -3,7 +3,8 @@ ghost use mathlib.Core.Path.{_≡_};
 ghost use mathlib.Core.Bool.{true};
 ghost use Prim.Native.Nat.{_≤_};
 ghost use lib.ListN.{length, take};
-ghost use Rattle.table.specs.Rows.{titles, rows-of, proper-facts, proper-jobs};
+ghost use Rattle.text.specs.Names.{proper-names};
+ghost use Rattle.table.specs.Rows.{titles, rows-of, proper-jobs};
 
 mod questions;
 mod read;
@@ -29,6 +30,6 @@ pub struct Table {
     ghost few_jobs: { «job_count» ≤ 128 },
     ghost counted_facts: { length (titles (take «fact_count» facts)) ≡ «fact_count» },
     ghost counted_jobs: { length (rows-of (take «job_count» jobs)) ≡ «job_count» },
-    ghost named: { proper-facts (titles (take «fact_count» facts)) ≡ true },
+    ghost named: { proper-names (titles (take «fact_count» facts)) ≡ true },
     ghost able: { proper-jobs «fact_count» (rows-of (take «job_count» jobs)) ≡ true },
 }

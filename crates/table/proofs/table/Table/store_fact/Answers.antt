@@ -5,7 +5,8 @@ use native.Mathlib.Omega.{arith}
 use lib.ListN.{length, length-set, set, take}
 use Rattle.std.proofs.shelf.Lists.{length-push}
 use Rattle.text.specs.Models.{spelling}
-use Rattle.table.specs.Rows.{titles, rows-of, proper-facts, proper-jobs}
+use Rattle.text.specs.Names.{proper-names}
+use Rattle.table.specs.Rows.{titles, rows-of, proper-jobs}
 use Rattle.table.proofs.Storing.{proper-push, titles-more}
 use Rattle.table.proofs.table.Table.store_fact.Needs as need
 
@@ -27,7 +28,7 @@ ghost-self c =
               (
                 t .«counted_jobs»,
                 (
-                  ap proper-facts more ∙ proper-push (titles (take n (t .facts))) (spelling (r .name)) (t .named) (c .pre .good) (c .pre .fresh),
+                  ap proper-names more ∙ proper-push (titles (take n (t .facts))) (spelling (r .name)) (t .named) (c .pre .good) (c .pre .fresh),
                   (ap (λ k. proper-jobs (n + 1) (rows-of (take k (t .jobs)))) (c .pre .first), tt),
                 ),
               ),

@@ -19,6 +19,9 @@ CLAUSE = re.compile(r"^\s*(pub )?(ghost|requires|ensures)\b|^\s*(→|×|⊎)")
 BOUND = {"code-world", "code-state", "code-job", "code-ends", "code-reader"}
 BOUND |= {"O-is", "G-is", "L-is", "o-size", "g-size", "apart-both", "not-ok"}
 
+# Names whose camel case is that of a variant which stands beside them.
+OTHER = {"Job-fails": "FailsAtJob", "Goal-fails": "FailsAtGoal"}
+
 
 def is_answers(path):
     return path.endswith(("/Answers.antt", "/Invariants.antt"))
@@ -46,6 +49,8 @@ def declared():
 
 
 def spelled(name):
+    if name in OTHER:
+        return OTHER[name]
     parts = name.split("-")
     if name[0].isupper() and len(parts[0]) > 1:
         return "".join(p[0].upper() + p[1:] for p in parts)

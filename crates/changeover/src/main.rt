@@ -1,4 +1,5 @@
 //! The program `changeover`: what its arguments ask for.
+#![tactic(auto)]
 
 mod checks;
 mod demo;

@@ -2,6 +2,7 @@
 //!
 //! `read_slip` answers what an acceptable slip says, or the one refusal. Nothing here allocates, and no call has a
 //! precondition.
+#![tactic(auto)]
 
 pub mod area;
 mod bar;

@@ -1,4 +1,5 @@
 //! Facts and lists run at the edges of their limits: fact 255, no facts and 256, no jobs and 64.
+#![tactic(auto)]
 
 #[cfg(test)]
 mod tests {

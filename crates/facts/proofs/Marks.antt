@@ -1,5 +1,5 @@
 -- What the operations on states and worlds do at one fact.
-use Rattle.std.proofs.Common.{◌≡◌, ℕ, zero, suc, Bool, true, false, not, ◌&&◌, ◌⊎◌, [], ◌∷◌, get_or, replicate, sym, refl, inl, inr, arith}
+use Rattle.std.proofs.Common.{◌≡◌, ℕ, zero, suc, Bool, true, false, not, ◌⊎◌, [], ◌∷◌, get_or, replicate, sym, refl, inl, inr, arith}
 use Rattle.facts.specs.declared.mark.Mark.{Mark}
 use Rattle.facts.specs.declared.mark.Mark.TheVariants.{Unnamed, Holds, Fails}
 use Rattle.facts.specs.States.{State, mark, nothing, sign, named, blend, over_one, overridden, less_one, without, missing_one, missing, covers_one}

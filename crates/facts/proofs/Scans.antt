@@ -5,8 +5,8 @@ use Rattle.std.proofs.lemmas.Bool.{both_ways, cases_lt, cases_Bool}
 use Rattle.std.proofs.lemmas.Bool.Decides.{Decides-like}
 use Rattle.facts.specs.declared.mark.Mark.{Mark}
 use Rattle.facts.specs.declared.mark.Mark.TheVariants.{Unnamed}
-use Rattle.facts.specs.States.{State, mark, named, Named, Within, blend, every}
-use Rattle.facts.specs.Worlds.{World, Meets, agrees, unmet}
+use Rattle.facts.specs.States.{State, mark, named, Within, blend, every}
+use Rattle.facts.specs.Worlds.{World, Meets, unmet}
 use Rattle.facts.specs.Words.{Lowest}
 use Rattle.facts.specs.Scans.{Blended, Everywhere, NoneFrom, First, AllMet, Picked}
 use Rattle.facts.proofs.Marks.{mark_blend, mark_unmet, sign_named, agrees_true, true_agrees}

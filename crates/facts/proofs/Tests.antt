@@ -1,10 +1,10 @@
 -- The computed tests say what they should.
-use Rattle.std.proofs.Common.{◌≡◌, ℕ, zero, suc, ◌+◌, ◌-◌, ◌<◌, ◌≤◌, Bool, true, false, not, ◌&&◌, ◌⊎◌, [], ◌∷◌, length, get_or, drop, Some, None, Decides, Option, sym, refl, ap, ◌∙◌, inl, inr, arith}
+use Rattle.std.proofs.Common.{◌≡◌, ℕ, zero, suc, ◌+◌, ◌-◌, ◌<◌, ◌≤◌, Bool, true, false, ◌⊎◌, [], ◌∷◌, length, drop, Some, None, Decides, Option, sym, refl, ap, ◌∙◌, inl, inr, arith}
 use Rattle.std.proofs.lemmas.Bool.{and_parts, and_from, or_parts, or_from, not-true, not_from_false, both_ways, cases_lt, cases_order}
 use Rattle.std.proofs.lemmas.List.{ext_get_or, get_or-drop, get_or_past}
 use Rattle.facts.specs.declared.mark.Mark.{Mark}
 use Rattle.facts.specs.declared.mark.Mark.TheVariants.{Unnamed}
-use Rattle.facts.specs.States.{State, mark, sign, named, Named, Covers, Apart, Within, every, covers_one, covers, same_one, same, apart_one, apart, any_named, within, here, lowest}
+use Rattle.facts.specs.States.{State, mark, named, Named, Covers, Apart, Within, every, covers_one, covers, same_one, same, apart_one, apart, any_named, within, here, lowest}
 use Rattle.facts.specs.Worlds.{World, Meets, agrees, meets}
 use Rattle.facts.specs.Words.{Lowest}
 use Rattle.facts.proofs.Marks.{covers_true, true_covers, agrees_true, true_agrees, unnamed_not}

@@ -1,6 +1,7 @@
 //! Facts, states and worlds: what a job needs, what it sets, and whether a world meets a state.
 //!
 //! A fact is known by its number, from 0. Nothing here allocates, and no call has a precondition.
+#![tactic(auto)]
 
 pub mod job;
 pub mod mark;

@@ -1,11 +1,10 @@
 -- Lists of jobs that fit, and a list taken apart.
-use Rattle.std.proofs.Common.{◌≡◌, ℕ, zero, suc, ◌-◌, ◌<◌, ◌≤◌, true, ◌&&◌, List, [], ◌∷◌, ◌++◌, length, get_or, take, drop, Some, None, sym, refl, ap, ◌∙◌, arith}
-use Rattle.std.proofs.lemmas.List.{length-map, length-take-le, get_or-map, get_or-take, take_all}
+use Rattle.std.proofs.Common.{◌≡◌, ℕ, ◌-◌, ◌<◌, ◌≤◌, true, ◌&&◌, List, [], ◌∷◌, ◌++◌, length, get_or, take, drop, sym, refl, arith}
+use Rattle.std.proofs.lemmas.List.{take_all}
 use Rattle.std.proofs.lemmas.Bool.{and_parts, and_from}
 use Rattle.facts.specs.declared.job.Job as code
 use Rattle.facts.specs.States.{State, Within, within}
 use Rattle.facts.specs.Worlds.{Job, job_within}
-use Rattle.facts.specs.Models.{job_of}
 use Rattle.facts.proofs.Tests.{within_decides}
 use Rattle.lists.specs.Lists.{jobs_within, fits}
 

@@ -1,5 +1,5 @@
 -- What a verdict says of the worlds.
-use Rattle.std.proofs.Common.{◌≡◌, ℕ, ◌<◌, ◌≤◌, true, false, List, [], ◌∷◌, ◌++◌, length, None, sym, refl, ap, subst, arith}
+use Rattle.std.proofs.Common.{◌≡◌, ℕ, ◌<◌, ◌≤◌, true, false, List, [], ◌∷◌, ◌++◌, length, None, sym, refl, subst, arith}
 use Rattle.facts.specs.States.{State, Within}
 use Rattle.facts.specs.Worlds.{World, Job}
 use Rattle.facts.specs.Words.{Exactly}

@@ -77,7 +77,7 @@ abbrev pub AlwaysReady : ℕ → State → List Job → Type 0
 AlwaysReady n O L = (w : World) → Sized n w → Meets w O → Ready w L
 
 -- job k of L, from 1, is the first that fails in some world that meets O, and it fails in w
-pub record JobFails (n : ℕ) (O : State) (L : List Job) (k : ℕ) (w : World) : Type 0 where
+pub record FailsAtJob (n : ℕ) (O : State) (L : List Job) (k : ℕ) (w : World) : Type 0 where
   pub earlier : List Job
   pub job : Job
   pub rest : List Job
@@ -87,12 +87,12 @@ pub record JobFails (n : ℕ) (O : State) (L : List Job) (k : ℕ) (w : World) :
   pub shows : Shows n O earlier job.precondition w
 
 -- no job fails in any world that meets O, and the goal fails in w
-pub record GoalFails (n : ℕ) (O : State) (L : List Job) (G : State) (w : World) : Type 0 where
+pub record FailsAtGoal (n : ℕ) (O : State) (L : List Job) (G : State) (w : World) : Type 0 where
   pub ready : AlwaysReady n O L
   pub shows : Shows n O L G w
 
 -- what an answer says, with the world w that comes with it
 abbrev pub Says : ℕ → State → List Job → State → World → Option Failure → Type 0
 Says n O L G w None = Good n O G L
-Says n O L G w (Some (failure.Job k)) = JobFails n O L k w
-Says n O L G w (Some failure.Goal) = GoalFails n O L G w
+Says n O L G w (Some (failure.Job k)) = FailsAtJob n O L k w
+Says n O L G w (Some failure.Goal) = FailsAtGoal n O L G w

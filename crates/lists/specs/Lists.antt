@@ -1,5 +1,5 @@
 -- Job lists, carrying them out, and which of them are good.
-use Rattle.std.specs.Prelude.{◌≡◌, ℕ, ◌≤◌, Bool, true, ◌&&◌, List, [], ◌∷◌, map, length}
+use Rattle.std.specs.Prelude.{ℕ, ◌≤◌, Bool, true, ◌&&◌, List, [], ◌∷◌, map, length}
 use Rattle.facts.specs.declared.job.Job as code
 use Rattle.facts.specs.States.{State, within}
 use Rattle.facts.specs.Worlds.{World, Job, Sized, Meets, carried, job_within}

@@ -1,5 +1,5 @@
 -- What stands in the code's lists, and what each call on one gives.
-use Rattle.std.specs.Prelude.{◌≡◌, ℕ, Bool, true, false, cond, not, ◌&&◌, List, [], ◌∷◌, ◌++◌, length, take, Ok, Err, Option, Result, nat_le, nat_lt}
+use Rattle.std.specs.Prelude.{◌≡◌, ℕ, cond, ◌&&◌, List, [], ◌∷◌, ◌++◌, length, take, Ok, Err, Option, Result, nat_le, nat_lt}
 use Rattle.facts.specs.declared.world.World as code
 use Rattle.facts.specs.States.{State, within}
 use Rattle.facts.specs.Worlds.{World, Job, job_within}

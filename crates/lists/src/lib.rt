@@ -1,6 +1,7 @@
 //! Job lists: which are good, and where the others fail first and in which world.
 //!
 //! Nothing here allocates, and no call has a precondition.
+#![tactic(auto)]
 
 pub mod failure;
 pub mod list;

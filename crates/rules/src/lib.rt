@@ -1,6 +1,8 @@
 //! The six rules, and what holds of them: the contract of each function here is a theorem.
 //!
 //! The rules stand in `specs/Rules.antt`, the derivation that is written for a list in `specs/Written.antt`.
+#![tactic(auto)]
+
 ghost use Rattle.rules.specs.Theorems.{Sound, Complete, Shallow, Traced, EndSpared};
 
 /// What the six rules derive is a good list.

@@ -2,6 +2,7 @@
 //!
 //! `check` reads one against a table and answers the accepted plan, or the one refusal. Nothing here allocates, and no
 //! call has a precondition.
+#![tactic(auto)]
 
 pub mod checker;
 pub mod plan;

@@ -1,4 +1,5 @@
 //! Slips checked at the edges of every rule and limit, and every refusal that a slip gets.
+#![tactic(auto)]
 
 #[cfg(test)]
 mod tests {

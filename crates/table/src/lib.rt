@@ -1,6 +1,7 @@
 //! Tables of facts and jobs, read from text.
 //!
 //! Nothing here allocates, and no call has a precondition.
+#![tactic(auto)]
 
 pub mod fact_row;
 pub mod fault;

@@ -1,4 +1,5 @@
 //! Tables read at the edges of their limits, and every refusal that a table gets.
+#![tactic(auto)]
 
 #[cfg(test)]
 mod tests {

@@ -1,14 +1,14 @@
 -- What the look over a text finds, in each of its outcomes.
-use Rattle.std.proofs.Common.{◌≡◌, ℕ, suc, ◌+◌, ◌<◌, ◌≤◌, Bool, true, false, cond, ◌&&◌, ◌||◌, eqb, ltb, leb, List, [], ◌∷◌, ◌++◌, length, Ok, Err, Result, sym, refl, ap, ◌∙◌, subst, arith}
+use Rattle.std.proofs.Common.{◌≡◌, ℕ, suc, ◌+◌, ◌≤◌, Bool, true, false, cond, ◌&&◌, ◌||◌, eqb, ltb, leb, List, [], ◌∷◌, length, Ok, Err, Result, sym, refl, ap, ◌∙◌, subst, arith}
 use Rattle.std.specs.List.{AllByRecursion as All}
-use Rattle.std.proofs.lemmas.Bool.{and_parts, and_from, ltb-true, ltb-false, both_ways}
+use Rattle.std.proofs.lemmas.Bool.{and_parts, and_from, ltb-true, ltb-false}
 use Rattle.text.specs.declared.fault.TextFault.{TextFault}
 use Rattle.text.specs.declared.fault.TextFault.TheVariants.{TooLong, BadByte, Unended, BadName, NoSign, UnknownName, FactTwice}
 use Rattle.text.specs.declared.whole.Cursor.{Cursor}
 use Rattle.text.specs.Chains.{then, unless}
 use Rattle.text.specs.Lines.{onto, cutting, lines}
 use Rattle.text.specs.Lists.{each}
-use Rattle.text.specs.Looks.{Kind, kind_of, by_kind, stepped, passed, start, ended, looked, text_byte, Proper, newlines, field_after, FirstBad, Looks}
+use Rattle.text.specs.Looks.{by_kind, passed, start, ended, looked, text_byte, newlines, field_after, FirstBad, Looks}
 use Rattle.text.specs.Looks.Kind.{newline, tab, plain, bad}
 use Rattle.text.specs.Spelling.{closed}
 use Rattle.text.proofs.Looking.{looked_at}

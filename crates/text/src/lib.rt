@@ -1,6 +1,7 @@
 //! Texts: the look over the whole, lines, fields and tags.
 //!
 //! A text is bytes, one record a line. Nothing here allocates, and no call has a precondition.
+#![tactic(auto)]
 
 pub mod fault;
 pub mod lines;

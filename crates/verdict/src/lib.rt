@@ -2,6 +2,7 @@
 //!
 //! A slip is the text of a plan: its opening, its goal, and a derivation by the six rules. Nothing here reads one; the
 //! definitions stand in `specs/`, and the program that computes them is the crate `slip`.
+#![tactic(auto)]
 
 ghost use Rattle.verdict.specs.Statements.{EverySlip, EveryList, EveryWriting};
 

@@ -14,4 +14,4 @@ returns c =
     let work = c.args.work.now in
     let t = table_of c.args.table.now in
     let clear = (same_decides (barred work) nothing (work.bar.facts.size ∙ sym nothing_places)).0 work.clear in
-    record { value = none_barred t c.args.slip.now (barred work) (mapped_ok (draft_of t) c.read-under.result) clear c.read-under.ensures.value; bar = ap bar_of c.read-under.ensures.bar }
+    record { value = none_barred t c.args.slip.now (barred work) (mapped_ok (draft_of t) c.read_under.result) clear c.read_under.ensures.value; bar = ap bar_of c.read_under.ensures.bar }

@@ -8,6 +8,6 @@ pub returns : goal.returns
 returns g c =
     let w = g.R.FactReader.fact c.args.reader.now in
     let s = c.args.state.now in
-    let r = c.all-met.result in
-    let d = meets_scan w s.marks r s.size (decides_when r c.all-met.ensures.facts) in
+    let r = c.all_met.result in
+    let d = meets_scan w s.marks r s.size (decides_when r c.all_met.ensures.facts) in
     record { value = same_from_decides r (meets w s.marks) d (meets_decides w s.marks); means = d }

@@ -10,5 +10,5 @@ loop-i-preserved g c =
     let w = g.R.FactReader.fact c.args.reader.now in
     let s = c.args.state.now.marks in (
       length-set _ _ _ ∙ c.loop-i.invariant.0,
-      fill_more (λ k. unmet_one (mark s k) (w k)) c.loop-i.marks c.loop-i.i c.unmet-at.result Unnamed (omega arith) c.unmet-at.ensures.value c.loop-i.invariant.1,
+      fill_more (λ k. unmet_one (mark s k) (w k)) c.loop-i.marks c.loop-i.i c.unmet_at.result Unnamed (omega arith) c.unmet_at.ensures.value c.loop-i.invariant.1,
     )

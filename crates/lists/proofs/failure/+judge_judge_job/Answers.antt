@@ -10,9 +10,9 @@ pub judge-returns-in-empty : goal.judge-returns-in-empty
 judge-returns-in-empty t c =
     let L = c.args.jobs.now in
     let none : L ≡ [] = nil_from_length L (omega (arith, ltb-true)) in
-    record { value = c.judge-goal.ensures.value ∙ ap (λ l. judged c.args.place (row c.args.state.now) (jobs_of l) (row c.args.goal.now)) (sym none) }
+    record { value = c.judge_goal.ensures.value ∙ ap (λ l. judged c.args.place (row c.args.state.now) (jobs_of l) (row c.args.goal.now)) (sym none) }
 
 pub judge-returns-in-len1-up : goal.judge-returns-in-len1-up
 judge-returns-in-len1-up t c =
     let L = c.args.jobs.now in
-    record { value = c.judge-job.ensures.value ∙ ap (λ l. judged c.args.place (row c.args.state.now) (jobs_of l) (row c.args.goal.now)) (sym (first_and_rest L c.job-item.result (omega (arith, ltb-false)) c.job-item.is)) }
+    record { value = c.judge_job.ensures.value ∙ ap (λ l. judged c.args.place (row c.args.state.now) (jobs_of l) (row c.args.goal.now)) (sym (first_and_rest L c.job-item.result (omega (arith, ltb-false)) c.job-item.is)) }

@@ -11,9 +11,9 @@ returns g c =
     let names = map g.R.Named.title facts in
     let at = c.args.at in
     let f = c.args.field.now in
-    let read = c.read-literals.ensures.value in
+    let read = c.read_literals.ensures.value in
     record {
       value = read;
-      grammar = spells_read names at f (mapped_ok row c.read-literals.result) read;
-      within = within_read names at f c.read-literals.result _ (length-map facts g.R.Named.title) read;
+      grammar = spells_read names at f (mapped_ok row c.read_literals.result) read;
+      within = within_read names at f c.read_literals.result _ (length-map facts g.R.Named.title) read;
     }

@@ -7,5 +7,5 @@ use Rattle.slip.proofs.checker.accept.Goals as goal
 
 pub of-requires : goal.of-requires
 of-requires c =
-    let d = c.in-ok-draft.draft in
-    accepted_facts (table_of c.args.table.now) (proper c.args.table.now) c.args.slip.now (row d.opening) (row d.goal) (take d.len d.numbers) (sym c.in-ok-draft.ensures.value)
+    let d = c.in_ok-draft.draft in
+    accepted_facts (table_of c.args.table.now) (proper c.args.table.now) c.args.slip.now (row d.opening) (row d.goal) (take d.len d.numbers) (sym c.in_ok-draft.ensures.value)

@@ -6,5 +6,5 @@ use Rattle.text.proofs.whole.look.Goals as goal
 pub returns : goal.returns
 returns c =
     let s = c.args.text.now in
-    let is = c.pass-over.ensures.value in
+    let is = c.pass_over.ensures.value in
     record { value = is; means = subst (Looks s) (sym is) (looks_so s) }

@@ -2,8 +2,8 @@ use Rattle.std.proofs.Common.{◌+◌, ◌*◌}
 use Rattle.derivation.proofs.reader.Reader.+by_rule_compose_frame_premises_rule_shrink_weaken.Given as goal
 
 -- the remaining depth falls; at one depth a line is read before its rule is looked at, and that before its premises
-abbrev pub decreases-by-rule : goal.decreases-by-rule
-decreases-by-rule l = 4 * l.left + 3
+abbrev pub decreases-by_rule : goal.decreases-by_rule
+decreases-by_rule l = 4 * l.left + 3
 
 abbrev pub decreases-compose : goal.decreases-compose
 decreases-compose l = 4 * l.left + 2

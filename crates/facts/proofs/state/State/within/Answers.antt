@@ -8,6 +8,6 @@ pub returns : goal.returns
 returns c =
     let s = c.args.self.now in
     let n = c.args.count in
-    let r = c.none-from.result in
-    let d = within_scan n s.marks r s.size (decides_when r c.none-from.ensures.facts) in
+    let r = c.none_from.result in
+    let d = within_scan n s.marks r s.size (decides_when r c.none_from.ensures.facts) in
     record { value = same_from_decides r (within n s.marks) d (within_decides n s.marks); means = d }

@@ -6,24 +6,19 @@ use Rattle.lists.proofs.Places.{fits_push}
 use Rattle.lists.proofs.Adding.{stored}
 use Rattle.lists.proofs.list.JobList.store.Goals as goal
 
-pub invariant-of-self : goal.invariant-of-self
-invariant-of-self c =
+pub invariant_of-self : goal.invariant_of-self
+invariant_of-self c =
     let l = c.args.self.now in
     let j = c.args.job in
     let L = jobs_of (take l.len l.jobs) in
-    let more : jobs_of (take (l.len + 1) (set l.jobs l.len j)) ≡ jobs_of (take l.len l.jobs) ++ job_of j ∷ [] = stored l.jobs l.len j (omega arith) in (
-      l.few,
-      (
-        length-set _ _ _ ∙ l.places,
-        (
-          omega arith,
-          (
-            ap length more ∙ length_push L (job_of j) ∙ ap (λ n. n + 1) l.counted,
-            (ap (fits l.count (row l.opening) (row l.goal)) more ∙ fits_push l.count (row l.opening) (row l.goal) L (job_of j) l.inside c.requires.1, tt),
-          ),
-        ),
-      ),
-    )
+    let more : jobs_of (take (l.len + 1) (set l.jobs l.len j)) ≡ jobs_of (take l.len l.jobs) ++ job_of j ∷ [] = stored l.jobs l.len j (omega arith) in
+    record {
+      few = l.few;
+      places = length-set _ _ _ ∙ l.places;
+      short = omega arith;
+      counted = ap length more ∙ length_push L (job_of j) ∙ ap (λ n. n + 1) l.counted;
+      inside = ap (fits l.count (row l.opening) (row l.goal)) more ∙ fits_push l.count (row l.opening) (row l.goal) L (job_of j) l.inside c.requires.1;
+    }
 
 pub returns : goal.returns
 returns c =

@@ -6,4 +6,4 @@ pub returns-then-a-b : goal.returns-then-a-b
 returns-then-a-b c = record { value = sym (same_lengths c.args.a.now c.args.b.now (λ e. omega arith)) }
 
 pub returns : goal.returns
-returns c = record { value = same_is c.args.a.now c.args.b.now c.same-bytes.result (omega arith) c.same-bytes.ensures.cases }
+returns c = record { value = same_is c.args.a.now c.args.b.now c.same_bytes.result (omega arith) c.same_bytes.ensures.cases }

@@ -7,5 +7,5 @@ pub returns : goal.returns
 returns c =
     let p = plan_of c.args.self.now in
     let i = c.args.fact in
-    let is = c.names-fact.ensures.value in
+    let is = c.names_fact.ensures.value in
     record { value = is; means = subst (λ (b : Bool). Decides b (Footprint p i)) (sym is) (footprint_decides p i) }

@@ -8,8 +8,8 @@ use Rattle.table.specs.Jobs.{job_at}
 use Rattle.verdict.specs.Verdicts.{Plan}
 use Rattle.slip.proofs.plan.Plan.of.Goals as goal
 
-pub invariant-of-result : goal.invariant-of-result
-invariant-of-result c = (c.args.draft.now.places, (∣ subst GoodList (sym c.list-of-list.ensures.value) c.requires.good ∣₁, tt))
+pub invariant_of-result : goal.invariant_of-result
+invariant_of-result c = (c.args.draft.now.places, (∣ subst GoodList (sym c.list_of-list.ensures.value) c.requires.good ∣₁, tt))
 
 pub returns : goal.returns
 returns c =
@@ -19,4 +19,4 @@ returns c =
     let jobs = map (job_at t) L in
     let size : length jobs ≡ d.len = length-map L (job_at t) ∙ length-take-le d.len d.numbers (omega (arith, d.places, d.few)) in
     let made : Listed → Plan = λ l. record { facts = l.facts; opening = l.opening; goal = l.goal; jobs = l.jobs; numbers = take (length l.jobs) d.numbers } in
-    record { value = ap made c.list-of-list.ensures.value ∙ ap (λ n. record { facts = length t.facts; opening = row d.opening; goal = row d.goal; jobs = jobs; numbers = take n d.numbers }) size }
+    record { value = ap made c.list_of-list.ensures.value ∙ ap (λ n. record { facts = length t.facts; opening = row d.opening; goal = row d.goal; jobs = jobs; numbers = take n d.numbers }) size }

@@ -17,16 +17,16 @@ returns-in-empty t c =
 apart : (L : List Job) (j : Job) (i : ℕ) → 0 < length L → j ≡ get_or L 0 j → (job_names (job_of j) i || jobs_name (jobs_of (take (length L - 1) (drop 1 L))) i) ≡ jobs_name (jobs_of L) i
 apart L j i h is = ap (λ (l : List Job). jobs_name (jobs_of l) i) (sym (first_and_rest L j h is))
 
-pub returns-then-job-names : goal.returns-then-job-names
-returns-then-job-names t c =
+pub returns-then-job_names : goal.returns-then-job_names
+returns-then-job_names t c =
     let L = c.args.jobs.now in
     let j = c.job-item.result in
     let i = c.args.fact in
-    record { value = c.if-job-names.true ∙ ap (λ b. b || jobs_name (jobs_of (take (length L - 1) (drop 1 L))) i) c.if-job-names.ensures.value ∙ apart L j i (omega (arith, ltb-false)) c.job-item.is }
+    record { value = c.if-job_names.true ∙ ap (λ b. b || jobs_name (jobs_of (take (length L - 1) (drop 1 L))) i) c.if-job_names.ensures.value ∙ apart L j i (omega (arith, ltb-false)) c.job-item.is }
 
-pub returns-else-job-names : goal.returns-else-job-names
-returns-else-job-names t c =
+pub returns-else-job_names : goal.returns-else-job_names
+returns-else-job_names t c =
     let L = c.args.jobs.now in
     let j = c.job-item.result in
     let i = c.args.fact in
-    record { value = c.any-names.ensures.value ∙ ap (λ b. b || jobs_name (jobs_of (take (length L - 1) (drop 1 L))) i) c.if-job-names.ensures.value ∙ apart L j i (omega (arith, ltb-false)) c.job-item.is }
+    record { value = c.any_names.ensures.value ∙ ap (λ b. b || jobs_name (jobs_of (take (length L - 1) (drop 1 L))) i) c.if-job_names.ensures.value ∙ apart L j i (omega (arith, ltb-false)) c.job-item.is }

@@ -6,8 +6,8 @@ use Rattle.table.specs.Rows.{titles, rows_of, proper_jobs}
 use Rattle.table.proofs.Storing.{proper_push, titles_more}
 use Rattle.table.proofs.table.Table.store_fact.Goals as goal
 
-pub invariant-of-self : goal.invariant-of-self
-invariant-of-self c =
+pub invariant_of-self : goal.invariant_of-self
+invariant_of-self c =
     let t = c.args.self.now in
     let n = t.fact_count in
     let r = c.args.row in

@@ -1,5 +1,5 @@
 -- The written derivation of a good list.
-use Rattle.std.proofs.Common.{◌≡◌, ℕ, zero, suc, ◌+◌, ◌≤◌, true, false, List, [], ◌∷◌, map, length, sym, refl, ap, ◌∙◌, ⊎_elim, arith}
+use Rattle.std.proofs.Common.{◌≡◌, ℕ, ◌+◌, ◌≤◌, false, List, [], ◌∷◌, map, length, sym, ap, ◌∙◌, ⊎_elim, arith}
 use Rattle.std.proofs.lemmas.Bool.{both_ways}
 use Rattle.facts.specs.States.{State, mark, named, Covers, Apart, nothing, over_one, overridden, less_one}
 use Rattle.facts.specs.Worlds.{Job}
@@ -9,7 +9,7 @@ use Rattle.lists.proofs.Places.{fits_parts}
 use Rattle.lists.proofs.Verdicts.{good_passes}
 use Rattle.rules.specs.Rules.{Tree, depth, Derives}
 use Rattle.rules.specs.Rules.Derives.{by_H, by_A, by_C, by_W, by_S, by_F}
-use Rattle.rules.specs.Written.{beside, one_job, steps, all_steps, written}
+use Rattle.rules.specs.Written.{beside, one_job, steps, all_steps}
 use Rattle.rules.specs.Theorems.{Complete, Shallow}
 use Rattle.rules.proofs.Marks.{over_unnamed_first, mark_beside, over_named, beside_effect, beside_named, beside_opens, beside_ends}
 

@@ -1,6 +1,6 @@
 -- Where the facts of an end come from, and lists whose effects stay clear of a bar.
-use Rattle.std.proofs.Common.{◌≡◌, ℕ, ◌⊎◌, List, [], ◌∷◌, ◌++◌, sym, refl, ap, ◌∙◌, inl, inr, ⊎_elim}
-use Rattle.facts.specs.States.{State, mark, named, Named, Covers, Apart, overridden}
+use Rattle.std.proofs.Common.{ℕ, ◌⊎◌, List, [], ◌∷◌, ◌++◌, sym, ap, ◌∙◌, inl, inr, ⊎_elim}
+use Rattle.facts.specs.States.{State, mark, named, Named, Covers, overridden}
 use Rattle.facts.specs.Worlds.{Job}
 use Rattle.facts.proofs.Marks.{mark_over}
 use Rattle.rules.specs.Rules.{Tree, Derives, Untouched, Touches}

@@ -1,5 +1,5 @@
 -- What the rules do at one fact: p, q, e, r are marks, x is whether it holds.
-use Rattle.std.proofs.Common.{◌≡◌, ℕ, Bool, true, false, ◌⊎◌, sym, refl, ap, ◌∙◌, inl, inr, arith}
+use Rattle.std.proofs.Common.{◌≡◌, ℕ, Bool, true, false, ◌⊎◌, refl, ap, ◌∙◌, inl, inr, arith}
 use Rattle.facts.specs.declared.mark.Mark.{Mark}
 use Rattle.facts.specs.declared.mark.Mark.TheVariants.{Unnamed, Holds, Fails}
 use Rattle.facts.specs.States.{State, mark, sign, named, over_one, less_one, without}

@@ -1,5 +1,5 @@
 -- What is read as a table is the text of that table.
-use Rattle.std.proofs.Common.{◌≡◌, ℕ, ◌+◌, ◌<◌, ◌≤◌, true, false, eqb, List, [], ◌∷◌, ◌++◌, map, length, get_or, is_some, Ok, sym, refl, ap, ◌∙◌, subst, append_assoc, append-nil, arith}
+use Rattle.std.proofs.Common.{◌≡◌, ℕ, ◌+◌, ◌<◌, ◌≤◌, true, false, eqb, ltb, List, [], ◌∷◌, ◌++◌, map, length, get_or, is_some, Ok, sym, refl, ap, ◌∙◌, subst, append_assoc, append-nil, arith}
 use Rattle.std.proofs.lemmas.Bool.{eqb-true, ltb-false, leb-false, not-false}
 use Rattle.std.proofs.lemmas.List.{map_push, length_push}
 use Rattle.facts.specs.Worlds.{Job}
@@ -47,6 +47,9 @@ lines_push facts [] (s ∷ rs) l r j k = absurd j
 lines_push facts (m ∷ ls) [] l r j k = absurd j
 lines_push facts (m ∷ ls) (s ∷ rs) l r j k = (j.0, lines_push facts ls rs l r j.1 k)
 
+not_positive : (n : ℕ) → ltb 0 n ≡ false → n ≡ 0
+not_positive n h = let z : n ≤ 0 = ltb-false 0 n h in omega arith
+
 fact_read : (ls : List (List ℕ)) (t u : Table) (at : ℕ) (l : List ℕ) → tag_of l ≡ N → LinesOf ls t → fact_line t at (fields l) ≡ Ok u → LinesOf (ls ++ l ∷ []) u
 fact_read ls t u at l tag o h =
     let a = unless_ok _ _ _ _ h in
@@ -56,7 +59,7 @@ fact_read ls t u at l tag o h =
     let fs = fields l in
     let n = get_or fs 1 [] in
     let new = name_read t.facts n d.value at d.first in
-    let none = no_lines t.facts o.job_lines t.jobs o.jobs (let z : length t.jobs ≤ 0 = ltb-false 0 (length t.jobs) a.test in omega arith) in
+    let none = no_lines t.facts o.job_lines t.jobs o.jobs (not_positive (length t.jobs) a.test) in
     let there : fs ≡ (78 ∷ []) ∷ n ∷ [] = two fs (eqb-true (length fs) 2 (not-false (eqb (length fs) 2) b.test)) ∙ ap (λ x. x ∷ n ∷ []) (tag_letter N (get_or fs 0 []) tag) in
     let line : l ≡ fact_text n = sym (join_parts 9 l) ∙ ap (join 9) there in
     let made : with_fact t n ≡ u = ap (with_fact t) (sym new.is) ∙ same_ok _ _ d.second in

@@ -1,5 +1,5 @@
 -- What stands in the code's table.
-use Rattle.std.specs.Prelude.{ℕ, take}
+use Rattle.std.specs.Prelude.{take}
 use Rattle.table.specs.declared.table.Table as code
 use Rattle.table.specs.Rows.{titles, rows_of}
 use Rattle.table.specs.Tables.{Table}

@@ -1,5 +1,5 @@
 -- The table in a text: every text is read, or gets its one refusal.
-use Rattle.std.specs.Prelude.{ℕ, ◌+◌, Bool, true, false, not, List, [], ◌∷◌, ◌++◌, map, length, is_some, Ok, Err, Result, ◌==◌, nat_le, nat_lt, slice_index_or}
+use Rattle.std.specs.Prelude.{ℕ, ◌+◌, not, List, [], ◌∷◌, ◌++◌, length, is_some, Ok, Err, Result, ◌==◌, nat_le, nat_lt, slice_index_or}
 use Rattle.facts.specs.Worlds.{Job}
 use Rattle.text.specs.declared.fault.Place.{Place}
 use Rattle.text.specs.declared.tag.Tag.{Tag}

@@ -1,6 +1,5 @@
-use Rattle.std.proofs.Common.{◌≡◌, sym, ap, ◌∙◌, arith}
+use Rattle.std.proofs.Common.{sym, ap, ◌∙◌, arith}
 use Rattle.std.proofs.lemmas.List.{get_or_past}
-use Rattle.facts.specs.Worlds.{Job}
 use Rattle.table.specs.Rows.{Row}
 use Rattle.table.specs.Models.{table_of}
 use Rattle.table.specs.Jobs.{no_row}

@@ -9,28 +9,17 @@ invariant_of-self c =
     let t = c.args.self.now in
     let n = t.job_count in
     let r = c.args.row in
-    let more : rows_of (take (n + 1) (set t.jobs n r)) ≡ rows_of (take n t.jobs) ++ row_of r ∷ [] = rows_more t.jobs n r (omega arith) in (
-      t.fact_places,
-      (
-        length-set _ _ _ ∙ t.job_places,
-        (
-          t.few_facts,
-          (
-            omega arith,
-            (
-              t.counted_facts,
-              (
-                ap length more ∙ length_push (rows_of (take n t.jobs)) (row_of r) ∙ ap (λ k. k + 1) t.counted_jobs,
-                (
-                  t.named,
-                  (ap (proper_jobs t.fact_count) more ∙ jobs_push t.fact_count (rows_of (take n t.jobs)) (row_of r) t.able c.requires.good c.requires.fresh c.requires.within, tt),
-                ),
-              ),
-            ),
-          ),
-        ),
-      ),
-    )
+    let more : rows_of (take (n + 1) (set t.jobs n r)) ≡ rows_of (take n t.jobs) ++ row_of r ∷ [] = rows_more t.jobs n r (omega arith) in
+    record {
+      fact_places = t.fact_places;
+      job_places = length-set _ _ _ ∙ t.job_places;
+      few_facts = t.few_facts;
+      few_jobs = omega arith;
+      counted_facts = t.counted_facts;
+      counted_jobs = ap length more ∙ length_push (rows_of (take n t.jobs)) (row_of r) ∙ ap (λ k. k + 1) t.counted_jobs;
+      named = t.named;
+      able = ap (proper_jobs t.fact_count) more ∙ jobs_push t.fact_count (rows_of (take n t.jobs)) (row_of r) t.able c.requires.good c.requires.fresh c.requires.within;
+    }
 
 pub returns : goal.returns
 returns c =

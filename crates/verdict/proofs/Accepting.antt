@@ -1,13 +1,11 @@
 -- A text is accepted exactly when it is a slip of what is answered.
-use Rattle.std.proofs.Common.{◌≡◌, ℕ, ◌≤◌, Bool, true, false, not, List, [], ◌∷◌, ◌++◌, length, get_or, Ok, Err, Result, sym, refl, ap, ◌∙◌, subst, append-nil, arith}
+use Rattle.std.proofs.Common.{◌≡◌, ℕ, ◌≤◌, true, false, not, List, [], ◌∷◌, ◌++◌, length, get_or, Ok, sym, refl, ap, ◌∙◌, subst, append-nil, arith}
 use Rattle.std.proofs.lemmas.Bool.{not-false}
 use Rattle.facts.specs.States.{State, nothing, same}
 use Rattle.facts.proofs.Tests.{same_decides}
 use Rattle.rules.specs.Rules.{Derives}
 use Rattle.text.specs.Chains.{then, unless}
 use Rattle.text.specs.Lines.{lines, fields}
-use Rattle.text.specs.Tags.{tag_of}
-use Rattle.text.specs.Looks.{looked}
 use Rattle.text.specs.Spelling.{closed}
 use Rattle.names.specs.Spelling.{Denotes}
 use Rattle.text.proofs.Undoing.{same_ok, then_ok, then_in_ok, unless_ok}
@@ -18,7 +16,7 @@ use Rattle.table.specs.Jobs.{job_at}
 use Rattle.verdict.specs.declared.fault.SlipFault.TheVariants.{LineAfter, OpeningDiffers, EndDiffers}
 use Rattle.verdict.specs.declared.rule.Header.{Header}
 use Rattle.verdict.specs.declared.rule.Header.TheVariants.{Opening, Goal}
-use Rattle.verdict.specs.Verdicts.{Ends, Cursor, Plan, plan_from, past, header, header_line, conclude, finish, agree, some_left, start, judge_lines, judge}
+use Rattle.verdict.specs.Verdicts.{Ends, Cursor, Plan, plan_from, past, header_line, conclude, finish, agree, some_left, start, judge_lines, judge}
 use Rattle.verdict.specs.Grammar.{tagged, SlipOf, AcceptsExactly}
 use Rattle.verdict.specs.Statements.{ProperTable}
 use Rattle.verdict.proofs.Undoing.{read_ok}

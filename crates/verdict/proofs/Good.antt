@@ -16,7 +16,7 @@ use Rattle.table.specs.Jobs.{job_at}
 use Rattle.verdict.specs.Verdicts.{plan_from, judge}
 use Rattle.verdict.specs.Grammar.{SpeltLines}
 use Rattle.verdict.specs.Slips.{state_text, tree_lines, slip_text}
-use Rattle.verdict.specs.Statements.{ProperTable, StateOver, JobsOf, GoodJobs, AcceptsGood, WritesAccepted, PlanFacts}
+use Rattle.verdict.specs.Statements.{ProperTable, GoodJobs, AcceptsGood, WritesAccepted, PlanFacts}
 use Rattle.verdict.proofs.Literals.{state_spelt}
 use Rattle.verdict.proofs.Overs.{list_fits, written_spelt}
 use Rattle.verdict.proofs.Lengths.{slip_short}

@@ -1,15 +1,14 @@
 -- How long a written slip is.
-use Rattle.std.proofs.Common.{◌≡◌, ℕ, zero, suc, ◌+◌, ◌*◌, ◌<◌, ◌≤◌, Bool, true, false, ◌&&◌, leb, ◌⊎◌, List, [], ◌∷◌, ◌++◌, map, length, get_or, sym, refl, ap, ◌∙◌, inl, inr, arith, length-append}
+use Rattle.std.proofs.Common.{◌≡◌, ℕ, suc, ◌+◌, ◌*◌, ◌<◌, ◌≤◌, true, ◌&&◌, leb, List, [], ◌∷◌, ◌++◌, map, length, get_or, arith, length-append}
 use Rattle.std.specs.List.{AllByRecursion as All}
 use Rattle.std.proofs.lemmas.Bool.{and_parts, leb-true}
 use Rattle.facts.specs.declared.mark.Mark.TheVariants.{Unnamed, Holds, Fails}
 use Rattle.facts.specs.States.{State, nothing, overridden}
-use Rattle.rules.specs.Rules.{Tree}
 use Rattle.rules.specs.Written.{beside, one_job, steps, all_steps, written}
 use Rattle.names.specs.Names.{letter, in_name, good_name, distinct_from}
 use Rattle.text.specs.Lists.{each}
 use Rattle.text.specs.Spelling.{join, closed}
-use Rattle.names.specs.Spelling.{Literal, spell, Adds, Spelt, Denotes}
+use Rattle.names.specs.Spelling.{Literal, spell, Adds}
 use Rattle.text.proofs.Lists.{each_at}
 use Rattle.table.specs.Tables.{Table}
 use Rattle.table.specs.Jobs.{job_at}

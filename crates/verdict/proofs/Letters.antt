@@ -1,5 +1,5 @@
 -- What a line is by its tag and its number of fields.
-use Rattle.std.proofs.Common.{◌≡◌, ℕ, Bool, true, false, not, eqb, List, [], ◌∷◌, length, get_or, Ok, Err, Result, sym, refl, ap, ◌∙◌, subst, arith}
+use Rattle.std.proofs.Common.{◌≡◌, ℕ, eqb, List, [], ◌∷◌, length, get_or, Ok, Err, Result, sym, refl, ap, ◌∙◌, arith}
 use Rattle.std.proofs.lemmas.Bool.{eqb-true, not-false}
 use Rattle.text.specs.declared.tag.Tag.{Tag}
 use Rattle.text.specs.declared.tag.Tag.TheVariants.{N, D, B, G, E, W, S, C, F, A, H, Other}
@@ -16,7 +16,7 @@ use Rattle.verdict.specs.declared.rule.Rule as rules
 use Rattle.verdict.specs.declared.rule.Rule.TheVariants.{Halt, Apply, Compose, Weaken, Shrink, Frame}
 use Rattle.verdict.specs.declared.rule.Header as headers
 use Rattle.verdict.specs.declared.rule.Header.TheVariants.{Opening, Goal}
-use Rattle.verdict.specs.Lines.{slip_tag, width, sized, as_header, as_rule, header_tag, rule_tag}
+use Rattle.verdict.specs.Lines.{slip_tag, sized, as_header, as_rule, header_tag, rule_tag}
 use Rattle.verdict.specs.Grammar.{bare, tagged}
 
 one : (fs : List (List ℕ)) → length fs ≡ 1 → fs ≡ get_or fs 0 [] ∷ []

@@ -1,11 +1,10 @@
 -- A state's literals in rising fact number spell it.
-use Rattle.std.proofs.Common.{◌≡◌, ℕ, zero, suc, ◌+◌, ◌*◌, ◌<◌, ◌≤◌, Bool, true, false, ◌⊎◌, List, [], ◌∷◌, ◌++◌, map, length, get_or, set, replicate, sym, refl, ap, ◌∙◌, subst, inl, inr, append_assoc, append-nil, arith, length-append}
+use Rattle.std.proofs.Common.{◌≡◌, ℕ, zero, suc, ◌+◌, List, [], ◌∷◌, ◌++◌, length, set, replicate, sym, refl, ap, ◌∙◌, subst, inl, inr, append_assoc, arith}
 use Rattle.std.proofs.lemmas.List.{length_push, get_or_at}
 use Rattle.facts.specs.declared.mark.Mark.{Mark}
 use Rattle.facts.specs.declared.mark.Mark.TheVariants.{Unnamed, Holds, Fails}
-use Rattle.facts.specs.States.{State, mark, named, sign, nothing, Within}
-use Rattle.text.specs.Spelling.{join}
-use Rattle.names.specs.Spelling.{Literal, spell, Adds, Spelt, Denotes}
+use Rattle.facts.specs.States.{State, named, nothing, Within}
+use Rattle.names.specs.Spelling.{Literal, Adds, Denotes}
 use Rattle.table.specs.Tables.{Table}
 use Rattle.verdict.specs.Slips.{literals_from, literals_text, state_text}
 use Rattle.verdict.specs.Statements.{StateOver}

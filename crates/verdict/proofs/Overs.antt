@@ -1,17 +1,17 @@
 -- States over a table's facts, and trees made of them.
-use Rattle.std.proofs.Common.{◌≡◌, ℕ, ◌<◌, true, ◌&&◌, List, [], ◌∷◌, map, length, get_or, sym, refl, ap, ◌∙◌, ⊎_elim, arith}
+use Rattle.std.proofs.Common.{◌≡◌, ℕ, ◌<◌, true, List, [], ◌∷◌, map, length, get_or, sym, refl, ap, ◌∙◌, ⊎_elim, arith}
 use Rattle.std.specs.List.{AllByRecursion as All}
 use Rattle.std.proofs.lemmas.Bool.{and_parts, and_from}
 use Rattle.facts.specs.declared.mark.Mark.{Mark}
-use Rattle.facts.specs.States.{State, mark, named, Within, within, less_one, overridden, without}
-use Rattle.facts.specs.Worlds.{Job, job_within}
+use Rattle.facts.specs.States.{State, mark, named, within, less_one, overridden, without}
+use Rattle.facts.specs.Worlds.{job_within}
 use Rattle.facts.proofs.Marks.{mark_less, mark_over}
 use Rattle.facts.proofs.Scans.{length_blend}
 use Rattle.facts.proofs.Tests.{within_decides}
 use Rattle.lists.specs.Lists.{jobs_within, fits}
 use Rattle.lists.proofs.Places.{parts_fit}
 use Rattle.rules.specs.Rules.{Tree}
-use Rattle.rules.specs.Rules.Tree.{H, A, C, W, S, F}
+use Rattle.rules.specs.Rules.Tree.{H, A, S}
 use Rattle.rules.specs.Written.{beside, one_job, steps, all_steps, written}
 use Rattle.rules.proofs.Marks.{over_named}
 use Rattle.text.specs.Lists.{each}

@@ -1,13 +1,11 @@
 -- States of 256 places.
-use Rattle.std.proofs.Common.{◌≡◌, ℕ, zero, suc, ◌⊎◌, List, [], ◌∷◌, length, get_or, set, sym, refl, ap, ◌∙◌, subst, inl, inr, length-set}
-use lib.ListN.{length-replicate}
+use Rattle.std.proofs.Common.{◌≡◌, ℕ, zero, suc, List, [], ◌∷◌, length, get_or, set, sym, refl, ap, ◌∙◌, inl, inr, length-set}
 use Rattle.std.specs.List.{AllByRecursion as All}
 use Rattle.facts.specs.States.{State, sign, nothing, over_one, overridden}
 use Rattle.facts.proofs.Scans.{length_blend}
 use Rattle.names.specs.Spelling.{Literal, Adds, Denotes}
 use Rattle.table.specs.Rows.{Row}
-use Rattle.table.specs.Tables.{Table}
-use Rattle.table.specs.Jobs.{no_row, job_at}
+use Rattle.table.specs.Jobs.{no_row}
 use Rattle.verdict.specs.Statements.{FullRow}
 
 pub nothing_places : length nothing ≡ 256

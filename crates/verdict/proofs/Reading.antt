@@ -1,10 +1,10 @@
 -- What is read as a derivation is spelt so, and the six rules make it one.
-use Rattle.std.proofs.Common.{◌≡◌, ℕ, zero, suc, ◌+◌, ◌<◌, ◌≤◌, Bool, true, false, not, ◌||◌, leb, List, [], ◌∷◌, ◌++◌, length, get_or, Some, Ok, Err, Result, sym, refl, ap, ◌∙◌, subst, append_assoc, append-nil, arith}
+use Rattle.std.proofs.Common.{◌≡◌, ℕ, zero, suc, ◌<◌, ◌≤◌, true, not, List, [], ◌∷◌, ◌++◌, length, get_or, Some, Ok, sym, refl, ap, ◌∙◌, subst, append_assoc, append-nil, arith}
 use lib.ListN.{length-map}
 use Rattle.std.specs.List.{AllByRecursion as All}
 use Rattle.std.proofs.lemmas.List.{length_push}
 use Rattle.std.proofs.lemmas.Bool.{leb-false, not-false, or_parts}
-use Rattle.facts.specs.States.{State, nothing, overridden, covers, apart}
+use Rattle.facts.specs.States.{State, overridden, covers, apart}
 use Rattle.facts.proofs.Tests.{covers_decides, apart_decides}
 use Rattle.rules.specs.Rules.{Tree, depth, Derives, Untouched}
 use Rattle.rules.specs.Rules.Tree.{H, A, C, W, S, F}
@@ -25,7 +25,7 @@ use Rattle.verdict.specs.declared.rule.Rule as rules
 use Rattle.verdict.specs.declared.rule.Rule.TheVariants.{Halt, Apply, Compose, Weaken, Shrink, Frame}
 use Rattle.verdict.specs.Lines.{rule_tag}
 use Rattle.verdict.specs.Verdicts.{Ends, Cursor, Read, Reader, past, by_rule, rule_line, derivation}
-use Rattle.verdict.specs.Grammar.{bare, tagged, job_name, SpeltLines}
+use Rattle.verdict.specs.Grammar.{tagged, job_name, SpeltLines}
 use Rattle.verdict.specs.Statements.{FullRow}
 use Rattle.verdict.proofs.Undoing.{read_ok, else_ok}
 use Rattle.verdict.proofs.Letters.{rule_text, rule_read}

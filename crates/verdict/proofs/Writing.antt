@@ -1,10 +1,10 @@
 -- What is spelt as a slip, and derives, is accepted.
-use Rattle.std.proofs.Common.{◌≡◌, ℕ, zero, suc, ◌+◌, ◌<◌, ◌≤◌, Bool, true, false, not, ◌&&◌, ◌||◌, leb, List, [], ◌∷◌, ◌++◌, length, get_or, Some, Ok, Err, Result, sym, refl, ap, ◌∙◌, subst, append_assoc, append-nil, arith, length-append}
+use Rattle.std.proofs.Common.{◌≡◌, ℕ, zero, suc, ◌+◌, ◌<◌, ◌≤◌, Bool, true, not, ◌&&◌, ◌||◌, List, [], ◌∷◌, ◌++◌, length, get_or, Some, Ok, Result, sym, refl, ap, ◌∙◌, subst, append_assoc, append-nil, arith, length-append}
 use lib.ListN.{length-map}
 use Rattle.std.specs.List.{AllByRecursion as All}
 use Rattle.std.proofs.ByRecursion.{All-append}
 use Rattle.std.proofs.lemmas.Bool.{and_parts, lt-leb}
-use Rattle.facts.specs.States.{State, mark, nothing, overridden, covers, same, apart, Covers, Apart}
+use Rattle.facts.specs.States.{State, mark, nothing, overridden, covers, same, apart}
 use Rattle.facts.specs.Worlds.{job_within}
 use Rattle.facts.proofs.Marks.{mark_nothing, unnamed_not}
 use Rattle.facts.proofs.Tests.{covers_decides, apart_decides, same_decides}
@@ -13,14 +13,12 @@ use Rattle.rules.specs.Rules.Tree.{H, A, C, W, S, F}
 use Rattle.rules.specs.Rules.Derives.{by_H, by_A, by_C, by_W, by_S, by_F}
 use Rattle.rules.proofs.Frames.{both_bar, append_untouched}
 use Rattle.text.specs.declared.fault.Place.{Place}
-use Rattle.text.specs.declared.fault.TextFault.{TextFault}
 use Rattle.text.specs.declared.fault.TextFault.TheVariants.{BadName, UnknownName}
 use Rattle.text.specs.Chains.{then, then_in, unless, or_else}
-use Rattle.text.specs.Looks.{looked}
-use Rattle.text.specs.Lines.{lines, fields}
-use Rattle.text.specs.Tags.{of_field, tag_of}
+use Rattle.text.specs.Lines.{fields}
+use Rattle.text.specs.Tags.{of_field}
 use Rattle.text.specs.Lists.{each}
-use Rattle.names.specs.Names.{good_name, found_at, name_field, distinct_from, proper_names}
+use Rattle.names.specs.Names.{good_name, found_at, distinct_from, proper_names}
 use Rattle.names.specs.Literals.{state_field}
 use Rattle.text.specs.Spelling.{closed}
 use Rattle.names.specs.Spelling.{Denotes}
@@ -40,7 +38,7 @@ use Rattle.verdict.specs.declared.rule.Rule.TheVariants.{Halt, Apply, Compose, W
 use Rattle.verdict.specs.declared.rule.Header as headers
 use Rattle.verdict.specs.declared.rule.Header.TheVariants.{Opening, Goal}
 use Rattle.verdict.specs.Lines.{header_tag, rule_tag}
-use Rattle.verdict.specs.Verdicts.{Ends, Cursor, Read, Plan, plan_from, past, with_number, applied, then_read, apply, premises, compose, weaken, shrink, frame, by_rule, rule_line, derivation, header_line, header, conclude, start, judge_lines, judge}
+use Rattle.verdict.specs.Verdicts.{Ends, Cursor, Read, plan_from, past, with_number, applied, then_read, weaken, shrink, frame, by_rule, rule_line, derivation, header_line, header, conclude, start, judge_lines, judge}
 use Rattle.verdict.specs.Grammar.{bare, tagged, job_name, SpeltLines, SlipOf}
 use Rattle.verdict.specs.Statements.{ProperTable}
 use Rattle.verdict.proofs.Letters.{header_letter}

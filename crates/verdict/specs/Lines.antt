@@ -1,5 +1,5 @@
 -- What a line of a slip is, and how many fields it has.
-use Rattle.std.specs.Prelude.{ℕ, Bool, not, Ok, Err, Result, ◌==◌}
+use Rattle.std.specs.Prelude.{ℕ, not, Ok, Err, Result, ◌==◌}
 use Rattle.text.specs.declared.tag.Tag.{Tag}
 use Rattle.text.specs.declared.tag.Tag.TheVariants.{N, D, B, G, E, W, S, C, F, A, H, Other}
 use Rattle.text.specs.Chains.{then, unless}

@@ -6,4 +6,7 @@ use Rattle.slip.proofs.Plans.{good_empty}
 use Rattle.slip.proofs.plan.Plan.empty.Goals as goal
 
 pub invariant_of-result : goal.invariant_of-result
-invariant_of-result c = (refl, (∣ good_empty (list_of c.in-Ok.list) 0 nothing (same_ok _ _ (c.in-Ok.ensures.value ∙ (λ i. listed 0 (c.empty.ensures.value i) (c.empty-2.ensures.value i)))) ∣₁, tt))
+invariant_of-result c = record {
+  places = refl;
+  good = ∣ good_empty (list_of c.in-Ok.list) 0 nothing (same_ok _ _ (c.in-Ok.ensures.value ∙ (λ i. listed 0 (c.empty.ensures.value i) (c.empty-2.ensures.value i)))) ∣₁;
+}

@@ -9,7 +9,10 @@ use Rattle.verdict.specs.Verdicts.{Plan}
 use Rattle.slip.proofs.plan.Plan.of.Goals as goal
 
 pub invariant_of-result : goal.invariant_of-result
-invariant_of-result c = (c.args.draft.now.places, (∣ subst GoodList (sym c.list_of-list.ensures.value) c.requires.good ∣₁, tt))
+invariant_of-result c = record {
+  places = c.args.draft.now.places;
+  good = ∣ subst GoodList (sym c.list_of-list.ensures.value) c.requires.good ∣₁;
+}
 
 pub returns : goal.returns
 returns c =

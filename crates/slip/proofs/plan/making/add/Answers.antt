@@ -8,8 +8,8 @@ use Rattle.slip.proofs.Plans.{added}
 use Rattle.slip.proofs.Tables.{proper}
 use Rattle.slip.proofs.plan.making.add.Goals as goal
 
-pub prove-unreachable-requires : goal.prove-unreachable-requires
-prove-unreachable-requires c =
+pub unreachable-requires : goal.unreachable-requires
+unreachable-requires c =
     let t = table_of c.args.table.now in
     let l = list_of c.args.list.now in
     let inside : job_within l.facts (job_of c.job.result) ≡ true = (λ i. job_within (c.requires.facts i) (c.job.ensures.value i)) ∙ job_inside t (proper c.args.table.now) c.args.number c.requires.known in

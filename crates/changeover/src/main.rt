@@ -12,6 +12,7 @@ mod tables;
 
 use quit::Quit;
 use std::env;
+use std::process::ExitCode;
 
 const USAGE: &str = "\
 usage: changeover COMMAND
@@ -24,13 +25,14 @@ usage: changeover COMMAND
 TABLE and SLIP are files; - in place of one of them is standard input.
 ";
 
-fn main(rt: HostRuntime) -> Result<(), Quit> {
+fn main(rt: HostRuntime) -> ExitCode {
     match run(&rt) {
-        Ok(()) => Ok(()),
-        Err(Quit::Told) => Err(Quit::Told),
+        Ok(()) => ExitCode::SUCCESS,
+        Err(Quit::Told) => ExitCode::FAILURE,
         Err(Quit::Failed(fault)) => {
-            eprintln!(rt; "changeover: {fault}")?;
-            Err(Quit::Told)
+            // Where even this cannot be printed, the status alone tells of it.
+            let _told = eprintln!(rt; "changeover: {fault}");
+            ExitCode::FAILURE
         }
     }
 }
@@ -54,7 +56,7 @@ fn run(rt: &HostRuntime) -> Result<(), Quit> {
         "help" => usage(rt),
         other => {
             let fault = format!(in rt.alloc(); "no command {other}; see: changeover help")?;
-            Err(Quit::Failed(fault.into()))
+            Err(Quit::Failed(anyhow::Error::msg(fault)))
         }
     }
 }

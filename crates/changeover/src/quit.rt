@@ -25,6 +25,6 @@ impl From<AllocError> for Quit {
 
 impl From<&str> for Quit {
     fn from(fault: &str) -> Quit {
-        Quit::Failed(fault.into())
+        Quit::Failed(anyhow::Error::msg(fault))
     }
 }

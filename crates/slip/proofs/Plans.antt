@@ -1,5 +1,5 @@
 -- Lists and plans made of what a slip says.
-use Rattle.std.proofs.Common.{◌≡◌, ℕ, ◌+◌, ◌<◌, ◌≤◌, Bool, true, false, cond, ◌&&◌, ◌||◌, ltb, leb, ◌⊎◌, List, [], ◌∷◌, ◌++◌, map, length, get_or, take, Ok, Err, Decides, Result, sym, refl, ap, ◌∙◌, subst, inl, inr, append_assoc, append-nil, arith, length-append}
+use Rattle.std.proofs.Common.{◌≡◌, ℕ, ◌+◌, ◌<◌, ◌≤◌, Bool, true, false, cond, ◌&&◌, ◌||◌, ltb, ◌⊎◌, List, [], ◌∷◌, ◌++◌, map, length, get_or, take, Ok, Err, Decides, Result, sym, refl, ap, ◌∙◌, subst, inl, inr, append_assoc, append-nil, arith, length-append}
 use lib.ListN.{length-map}
 use Rattle.std.specs.List.{AllByRecursion as All}
 use Rattle.std.proofs.ByRecursion.{All-get_or}
@@ -11,7 +11,7 @@ use Rattle.facts.specs.Models.{Leaves}
 use Rattle.lists.specs.declared.list.ListFault.{ListFault}
 use Rattle.lists.specs.declared.list.ListFault.TheVariants.{TooManyFacts, FactPast}
 use Rattle.lists.specs.Models.{Listed, listed, more, with_job, GoodList}
-use Rattle.slip.specs.Plans.{with_jobs, job_names, jobs_name, JobNames, footprint, Footprint}
+use Rattle.slip.specs.Plans.{with_jobs, jobs_name, JobNames, footprint, Footprint}
 use Rattle.verdict.specs.Verdicts.{Plan}
 
 -- a job that fits is added

@@ -1,5 +1,5 @@
 -- Every table that was read is a proper one.
-use Rattle.std.proofs.Common.{◌≡◌, true, List, [], ◌∷◌, length, take, sym, ap, ◌∙◌, arith}
+use Rattle.std.proofs.Common.{List, [], ◌∷◌, take, ap, ◌∙◌, arith}
 use Rattle.std.specs.List.{AllByRecursion as All}
 use Rattle.table.specs.declared.job_row.JobRow.{JobRow}
 use Rattle.table.specs.declared.table.Table.{Table}

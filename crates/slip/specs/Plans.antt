@@ -1,6 +1,6 @@
 -- What stands in the code's plans.
-use Rattle.std.specs.Prelude.{◌≡◌, ℕ, Bool, true, false, ◌||◌, ◌⊎◌, List, [], ◌∷◌, ◌++◌, map, length, take}
-use Rattle.facts.specs.States.{State, mark, named, Named, nothing}
+use Rattle.std.specs.Prelude.{ℕ, Bool, false, ◌||◌, ◌⊎◌, List, [], ◌∷◌, ◌++◌, map, length, take}
+use Rattle.facts.specs.States.{mark, named, Named, nothing}
 use Rattle.facts.specs.Worlds.{Job}
 use Rattle.facts.specs.Models.{row}
 use Rattle.lists.specs.Models.{Listed, list_of}

@@ -1,7 +1,6 @@
 use Rattle.std.proofs.Common.{ℕ, List, ap, arith}
 use Rattle.std.proofs.lemmas.List.{take_more_set}
 use Rattle.text.specs.Lines.{lines}
-use Rattle.verdict.specs.Verdicts.{Cursor}
 use Rattle.derivation.proofs.reader.Reader.push.Goals as goal
 
 pub returns : goal.returns

@@ -2,7 +2,7 @@ use Rattle.std.proofs.Common.{◌≡◌, map, length, take, sym, ap, ◌∙◌, 
 use lib.ListN.{length-map}
 use Rattle.std.proofs.lemmas.List.{length-take-le}
 use Rattle.facts.specs.Models.{row}
-use Rattle.lists.specs.Models.{Listed, list_of, GoodList}
+use Rattle.lists.specs.Models.{Listed, GoodList}
 use Rattle.table.specs.Models.{table_of}
 use Rattle.table.specs.Jobs.{job_at}
 use Rattle.verdict.specs.Verdicts.{Plan}

@@ -1,5 +1,5 @@
-use Rattle.std.proofs.Common.{◌≡◌, ℕ, true, sym, ap, ◌∙◌, arith}
-use Rattle.facts.specs.Worlds.{Job, job_within}
+use Rattle.std.proofs.Common.{◌≡◌, ℕ, true, ◌∙◌, arith}
+use Rattle.facts.specs.Worlds.{job_within}
 use Rattle.facts.specs.Models.{job_of}
 use Rattle.lists.specs.Models.{list_of}
 use Rattle.table.specs.Models.{table_of}

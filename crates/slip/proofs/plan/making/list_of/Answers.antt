@@ -1,4 +1,4 @@
-use Rattle.std.proofs.Common.{◌≡◌, ℕ, ◌-◌, ◌<◌, length, take, sym, ap, ◌∙◌, arith}
+use Rattle.std.proofs.Common.{◌≡◌, ◌-◌, ◌<◌, length, take, ap, ◌∙◌, arith}
 use Rattle.facts.specs.Models.{row}
 use Rattle.lists.specs.Models.{Listed, list_of}
 use Rattle.table.specs.Models.{table_of}

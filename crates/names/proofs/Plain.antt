@@ -1,6 +1,6 @@
 -- Bytes of names, of fields and of lines.
 use Rattle.std.proofs.Common.{◌≡◌, ℕ, Bool, true, ◌&&◌, leb, List, [], ◌∷◌, ◌++◌, length, get_or, arith}
-use Rattle.std.specs.List.{AllByRecursion as All}
+use Rattle.std.specs.List.{AllByRecursion}
 use Rattle.std.proofs.lemmas.Bool.Decides.{nat_tests}
 use Rattle.std.proofs.lemmas.Bool.{and_parts}
 use Rattle.text.specs.Lists.{each}
@@ -37,6 +37,6 @@ lined s h = each_some plain_byte line_byte plain_line s h
 pub lined_append : (s t : List ℕ) → each line_byte s ≡ true → each line_byte t ≡ true → each line_byte (s ++ t) ≡ true
 lined_append s t h k = each_append line_byte s t h k
 
-pub all_free : (ls : List (List ℕ)) → All (λ l. each line_byte l ≡ true) ls → All (Free 10) ls
+pub all_free : (ls : List (List ℕ)) → AllByRecursion (λ l. each line_byte l ≡ true) ls → AllByRecursion (Free 10) ls
 all_free [] h = tt
 all_free (l ∷ ls) h = (line_free l h.0, all_free ls h.1)

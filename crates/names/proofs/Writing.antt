@@ -1,6 +1,6 @@
 -- What spells a state over well formed, distinct names is read as it.
 use Rattle.std.proofs.Common.{◌≡◌, ℕ, zero, suc, ◌+◌, ◌<◌, ◌≤◌, Bool, true, false, cond, not, List, [], ◌∷◌, ◌++◌, map, length, get_or, set, is_some, Some, Ok, Result, sym, refl, ap, ◌∙◌, inl, inr, arith}
-use Rattle.std.specs.List.{AllByRecursion as All}
+use Rattle.std.specs.List.{AllByRecursion}
 use Rattle.std.proofs.lemmas.Bool.Decides.{nat_tests}
 use Rattle.std.proofs.lemmas.Bool.{and_parts, and_from, lt-leb, not-true, both_ways}
 use Rattle.std.proofs.lemmas.List.{get_or_append_left, get_or_push, length_push}
@@ -89,7 +89,7 @@ module _ (facts : List (List ℕ)) (proper : proper_names facts ≡ true) (few :
   spell_spaceless : (l : Literal) → l.0 < length facts → Free 32 (spell facts l)
   spell_spaceless l h = (sign_spaceless l.1, each_all in_name (λ b. b ≡ 32 → ⊥) name_spaceless (get_or facts l.0 []) (good_bytes (get_or facts l.0 []) (each_at good_name facts [] good l.0 h)))
 
-  all_spaceless : (ls : List Literal) (s t : State) → Adds (length facts) s ls t → All (Free 32) (map (spell facts) ls)
+  all_spaceless : (ls : List Literal) (s t : State) → Adds (length facts) s ls t → AllByRecursion (Free 32) (map (spell facts) ls)
   all_spaceless [] s t a = tt
   all_spaceless (l ∷ ls) s t a = (spell_spaceless l a.0, all_spaceless ls (set s l.0 (sign l.1)) t a.2)
 

@@ -1,6 +1,6 @@
 -- What the rules derive is good.
 use Rattle.std.proofs.Common.{ℕ, List, [], ◌∷◌, ◌++◌, map, sym, ◌∙◌, ⊎_elim, arith}
-use lib.ListN.{length-map}
+use Rattle.std.proofs.lemmas.List.{length-map}
 use Rattle.facts.specs.States.{State, mark, Covers, Apart, overridden}
 use Rattle.facts.specs.Worlds.{World, Job, Meets, carried}
 use Rattle.facts.proofs.Marks.{mark_over}

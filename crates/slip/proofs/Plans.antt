@@ -1,9 +1,8 @@
 -- Lists and plans made of what a slip says.
 use Rattle.std.proofs.Common.{◌≡◌, ℕ, ◌+◌, ◌<◌, ◌≤◌, Bool, true, false, cond, ◌&&◌, ◌||◌, ltb, ◌⊎◌, List, [], ◌∷◌, ◌++◌, map, length, get_or, take, Ok, Err, Decides, Result, sym, refl, ap, ◌∙◌, subst, inl, inr, append_assoc, append-nil, arith, length-append}
-use lib.ListN.{length-map}
-use Rattle.std.specs.List.{AllByRecursion as All}
+use Rattle.std.proofs.lemmas.List.{length-map, take_more, map_push, length-take-le}
+use Rattle.std.specs.List.{AllByRecursion}
 use Rattle.std.proofs.ByRecursion.{All-get_or}
-use Rattle.std.proofs.lemmas.List.{take_more, map_push, length-take-le}
 use Rattle.std.proofs.lemmas.Bool.{lt-leb}
 use Rattle.facts.specs.States.{State, mark, named, within}
 use Rattle.facts.specs.Worlds.{Job, job_within}
@@ -48,8 +47,8 @@ listed_is n O G l e = go (ltb 256 n) (within n O && within n G) e
     go false true h = cc
     go false false h = let z : ◌≡◌ {A = ℕ} 0 1 = cc in absurd (omega arith)
 
-pub known_at : (P : ℕ → Type 0) (xs : List ℕ) (n m : ℕ) → n ≡ m → All P (take n xs) → (i : ℕ) → i < length (take m xs) → P (get_or (take m xs) i 0)
-known_at P xs n m e a i h = All-get_or P (take m xs) i 0 h (subst (λ (k : ℕ). All P (take k xs)) e a)
+pub known_at : (P : ℕ → Type 0) (xs : List ℕ) (n m : ℕ) → n ≡ m → AllByRecursion P (take n xs) → (i : ℕ) → i < length (take m xs) → P (get_or (take m xs) i 0)
+known_at P xs n m e a i h = All-get_or P (take m xs) i 0 h (subst (λ (k : ℕ). AllByRecursion P (take k xs)) e a)
 
 -- which facts are named
 either : (a b : Bool) (P Q : Type 0) → Decides a P → Decides b Q → Decides (a || b) (P ⊎ Q)

@@ -675,7 +675,7 @@ mod tests {
             b"B\t+n254 +n0\nG\t-n255\nW\t+n0 +n254\nC\nS\t+n254\nA\tlast\nS\t-n255\nA\tlast\n";
         let plan = slip::check(&table, slip, &mut Work::new())?;
         assert_eq!(rt; plan.count(), 256);
-        assert!(rt; plan.numbers() == &[127, 127]);
+        assert!(rt; plan.numbers() == [127, 127].as_slice());
         assert!(rt; plan.names(0) && !plan.names(1) && plan.names(255) && !plan.names(256));
         Ok(())
     }
@@ -726,7 +726,7 @@ mod tests {
             (Mark::Unnamed, Mark::Holds, Mark::Holds)
         );
         assert_eq!(rt; plan.jobs().len(), 2);
-        assert!(rt; plan.numbers() == &[0, 1]);
+        assert!(rt; plan.numbers() == [0, 1].as_slice());
         assert!(rt; plan.names(0) && plan.names(1) && plan.names(2) && !plan.names(3));
         Ok(())
     }
@@ -736,7 +736,7 @@ mod tests {
         let table = Table::read(TRIO.as_bytes())?;
         let slip = tall(rt.alloc(), "B\t.\nG\t.\n", "C\nA\tidle\n", 64, "H\n")?;
         let plan = slip::check(&table, slip.as_bytes(), &mut Work::new())?;
-        assert!(rt; plan.numbers() == &[4; 64]);
+        assert!(rt; plan.numbers() == [4; 64].as_slice());
         Ok(())
     }
 

@@ -1,7 +1,6 @@
 -- One row more at the end of a table.
 use Rattle.std.proofs.Common.{◌≡◌, ℕ, ◌+◌, ◌<◌, ◌≤◌, Bool, true, false, not, List, [], ◌∷◌, ◌++◌, length, get_or, take, set, is_some, Some, sym, refl, ap, ◌∙◌, append_assoc, append-nil, arith}
-use lib.ListN.{length-map}
-use Rattle.std.proofs.lemmas.List.{take_more_set, map_push, get_or-map, get_or-take, length-take-le}
+use Rattle.std.proofs.lemmas.List.{length-map, take_more_set, map_push, get_or-map, get_or-take, length-take-le}
 use Rattle.std.proofs.lemmas.Bool.{and_parts, and_from, not_from_false}
 use Rattle.facts.specs.Worlds.{job_within}
 use Rattle.text.specs.Lists.{each}

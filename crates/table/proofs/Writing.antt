@@ -1,6 +1,6 @@
 -- The text of a table is read as that table.
 use Rattle.std.proofs.Common.{◌≡◌, ℕ, suc, ◌+◌, ◌<◌, ◌≤◌, true, false, not, List, [], ◌∷◌, ◌++◌, map, length, get_or, is_some, Ok, sym, ap, ◌∙◌, subst, append_assoc, append-nil, arith}
-use Rattle.std.specs.List.{AllByRecursion as All}
+use Rattle.std.specs.List.{AllByRecursion}
 use Rattle.std.proofs.lemmas.Bool.{and_parts, lt-leb, not-true}
 use Rattle.std.proofs.lemmas.List.{map_push, length_push}
 use Rattle.text.specs.declared.fault.TextFault.TheVariants.{BadName}
@@ -87,7 +87,7 @@ module _ (facts : List (List ℕ)) (proper : proper_names facts ≡ true) (few :
       ∙ lined_append r.name (9 ∷ (j.needs ++ 9 ∷ j.sets)) (lined r.name (good_plain r.name g))
       (lined_append j.needs (9 ∷ j.sets) (lined j.needs (field_plain facts proper few (place 0 0) j.needs r.job.precondition j.precondition)) (lined j.sets (field_plain facts proper few (place 0 0) j.sets r.job.effect j.effect)))
 
-  rows_lined : (ls : List (List ℕ)) (rs : List Row) → JobLines facts ls rs → each good_name (job_names rs) ≡ true → All (λ l. each line_byte l ≡ true) ls
+  rows_lined : (ls : List (List ℕ)) (rs : List Row) → JobLines facts ls rs → each good_name (job_names rs) ≡ true → AllByRecursion (λ l. each line_byte l ≡ true) ls
   rows_lined [] [] j g = tt
   rows_lined [] (r ∷ rs) j g = absurd j
   rows_lined (l ∷ ls) [] j g = absurd j
@@ -95,7 +95,7 @@ module _ (facts : List (List ℕ)) (proper : proper_names facts ≡ true) (few :
       let q = and_parts (good_name r.name) (each good_name (job_names rs)) g in
       (row_lined l r j.0 q.0, rows_lined ls rs j.1 q.1)
 
-facts_lined : (ns rest : List (List ℕ)) → each good_name ns ≡ true → All (λ l. each line_byte l ≡ true) rest → All (λ l. each line_byte l ≡ true) (map fact_text ns ++ rest)
+facts_lined : (ns rest : List (List ℕ)) → each good_name ns ≡ true → AllByRecursion (λ l. each line_byte l ≡ true) rest → AllByRecursion (λ l. each line_byte l ≡ true) (map fact_text ns ++ rest)
 facts_lined [] rest g h = h
 facts_lined (n ∷ ns) rest g h =
     let q = and_parts (good_name n) (each good_name ns) g in

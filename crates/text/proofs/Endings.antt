@@ -1,6 +1,6 @@
 -- A text without fault is its lines, each ended; and lines of bytes that a text has make one.
 use Rattle.std.proofs.Common.{◌≡◌, ℕ, ◌+◌, ◌≤◌, Bool, true, false, cond, ◌&&◌, ◌||◌, eqb, ltb, leb, List, [], ◌∷◌, ◌++◌, length, Ok, Err, Result, sym, refl, ap, ◌∙◌, arith}
-use Rattle.std.specs.List.{AllByRecursion as All}
+use Rattle.std.specs.List.{AllByRecursion}
 use Rattle.std.proofs.lemmas.Bool.Decides.{nat_tests}
 use Rattle.std.proofs.lemmas.Bool.{and_parts, eqb-true, ltb-false, both_ways}
 use Rattle.text.specs.declared.fault.TextFault.{TextFault}
@@ -53,11 +53,11 @@ passed_line c (b ∷ l) s h = go (λ d. passed_line d l s (and_parts (line_byte 
     go next tab is_tab = next (record { line = c.line; field = c.field + 1; fresh = false })
     go next plain is_plain = next (record { line = c.line; field = c.field; fresh = false })
 
-passed_lines : (c : Cursor) (ls : List (List ℕ)) → c.fresh ≡ true → All (λ l. each line_byte l ≡ true) ls → then (passed c (closed ls)) ended ≡ Ok tt
+passed_lines : (c : Cursor) (ls : List (List ℕ)) → c.fresh ≡ true → AllByRecursion (λ l. each line_byte l ≡ true) ls → then (passed c (closed ls)) ended ≡ Ok tt
 passed_lines c [] f h = ap (λ x. cond x (Ok tt) (Err (Unended c.line))) f
 passed_lines c (l ∷ ls) f h = ap (λ r. then r ended) (passed_line c l (closed ls) h.0) ∙ passed_lines (next_line c) ls refl h.1
 
-pub looked_closed : (ls : List (List ℕ)) → length (closed ls) ≤ 1048576 → All (λ l. each line_byte l ≡ true) ls → looked (closed ls) ≡ Ok tt
+pub looked_closed : (ls : List (List ℕ)) → length (closed ls) ≤ 1048576 → AllByRecursion (λ l. each line_byte l ≡ true) ls → looked (closed ls) ≡ Ok tt
 looked_closed ls h k = looked_at (closed ls) h ∙ passed_lines start ls refl k
 
 -- the other way: a text that ends fresh is its lines, each ended

@@ -1,13 +1,13 @@
 -- Parts joined again, and joined parts cut again.
 use Rattle.std.proofs.Common.{◌≡◌, ℕ, Bool, true, false, eqb, List, [], ◌∷◌, ◌++◌, sym, refl, ap, ◌∙◌}
-use Rattle.std.specs.List.{AllByRecursion as All}
+use Rattle.std.specs.List.{AllByRecursion}
 use Rattle.std.proofs.lemmas.Bool.{eqb-true, eq-eqb, ne_eqb}
 use Rattle.text.specs.Lines.{onto, cutting, lines, parts}
 use Rattle.text.specs.Spelling.{join, closed}
 
 -- no byte is k
 abbrev pub Free : ℕ → List ℕ → Type 0
-Free k s = All (λ b. b ≡ k → ⊥) s
+Free k s = AllByRecursion (λ b. b ≡ k → ⊥) s
 
 join_onto : (k b : ℕ) (p : List ℕ) (ps : List (List ℕ)) → join k (onto b (p ∷ ps)) ≡ b ∷ join k (p ∷ ps)
 join_onto k b p [] = refl
@@ -39,7 +39,7 @@ parts_last_free : (k : ℕ) (p : List ℕ) → Free k p → parts k p ≡ p ∷ 
 parts_last_free k [] f = refl
 parts_last_free k (b ∷ p) f = ap (λ t. cutting t b (parts k p)) (ne_eqb b k f.0) ∙ ap (onto b) (parts_last_free k p f.1)
 
-pub parts_join : (k : ℕ) (p : List ℕ) (ps : List (List ℕ)) → Free k p → All (Free k) ps → parts k (join k (p ∷ ps)) ≡ p ∷ ps
+pub parts_join : (k : ℕ) (p : List ℕ) (ps : List (List ℕ)) → Free k p → AllByRecursion (Free k) ps → parts k (join k (p ∷ ps)) ≡ p ∷ ps
 parts_join k p [] f fs = parts_last_free k p f
 parts_join k p (q ∷ ps) f fs = parts_free k p (join k (q ∷ ps)) f ∙ ap (λ l. p ∷ l) (parts_join k q ps fs.0 fs.1)
 
@@ -47,6 +47,6 @@ lines_free : (l s : List ℕ) → Free 10 l → lines (l ++ 10 ∷ s) ≡ l ∷ 
 lines_free [] s f = refl
 lines_free (b ∷ l) s f = ap (λ t. cutting t b (lines (l ++ 10 ∷ s))) (ne_eqb b 10 f.0) ∙ ap (onto b) (lines_free l s f.1)
 
-pub lines_closed : (ls : List (List ℕ)) → All (Free 10) ls → lines (closed ls) ≡ ls
+pub lines_closed : (ls : List (List ℕ)) → AllByRecursion (Free 10) ls → lines (closed ls) ≡ ls
 lines_closed [] f = refl
 lines_closed (l ∷ ls) f = lines_free l (closed ls) f.0 ∙ ap (λ m. l ∷ m) (lines_closed ls f.1)

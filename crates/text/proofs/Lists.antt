@@ -1,6 +1,6 @@
 -- Lists by their elements, and a test of each.
 use Rattle.std.proofs.Common.{◌≡◌, ℕ, zero, suc, ◌<◌, Bool, true, List, [], ◌∷◌, ◌++◌, length, get_or, refl, arith}
-use Rattle.std.specs.List.{AllByRecursion as All}
+use Rattle.std.specs.List.{AllByRecursion}
 use Rattle.std.proofs.lemmas.Bool.{and_parts, and_from}
 use Rattle.text.specs.Lists.{each}
 
@@ -18,7 +18,7 @@ four (a ∷ b ∷ c ∷ []) h = absurd (omega arith)
 four (a ∷ b ∷ c ∷ d ∷ []) h = refl
 four (a ∷ b ∷ c ∷ d ∷ e ∷ fs) h = absurd (omega arith)
 
-pub each_all : {X : Type 0} (p : X → Bool) (P : X → Type 0) → ((b : X) → p b ≡ true → P b) → (s : List X) → each p s ≡ true → All P s
+pub each_all : {X : Type 0} (p : X → Bool) (P : X → Type 0) → ((b : X) → p b ≡ true → P b) → (s : List X) → each p s ≡ true → AllByRecursion P s
 each_all p P f [] h = tt
 each_all p P f (b ∷ s) h = let q = and_parts (p b) (each p s) h in (f b q.0, each_all p P f s q.1)
 

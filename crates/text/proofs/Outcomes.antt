@@ -1,6 +1,6 @@
 -- What the look over a text finds, in each of its outcomes.
 use Rattle.std.proofs.Common.{◌≡◌, ℕ, suc, ◌+◌, ◌≤◌, Bool, true, false, cond, ◌&&◌, ◌||◌, eqb, ltb, leb, List, [], ◌∷◌, length, Ok, Err, Result, sym, refl, ap, ◌∙◌, subst, arith}
-use Rattle.std.specs.List.{AllByRecursion as All}
+use Rattle.std.specs.List.{AllByRecursion}
 use Rattle.std.proofs.lemmas.Bool.{and_parts, and_from, ltb-true, ltb-false}
 use Rattle.text.specs.declared.fault.TextFault.{TextFault}
 use Rattle.text.specs.declared.fault.TextFault.TheVariants.{TooLong, BadByte, Unended, BadName, NoSign, UnknownName, FactTwice}
@@ -79,17 +79,17 @@ walks c (b ∷ s) = go (λ m. walks m s) (eqb b 10) refl (eqb b 9) refl (leb 32 
         record { before = []; byte = b; after = s; split = refl; good = refl; bad = λ d. e d || (f d || g d); line = omega arith; field = refl }
 
 -- the lines of bytes that a text may have
-onto_lined : (b : ℕ) (ls : List (List ℕ)) → line_byte b ≡ true → All (λ l. each line_byte l ≡ true) ls → All (λ l. each line_byte l ≡ true) (onto b ls)
+onto_lined : (b : ℕ) (ls : List (List ℕ)) → line_byte b ≡ true → AllByRecursion (λ l. each line_byte l ≡ true) ls → AllByRecursion (λ l. each line_byte l ≡ true) (onto b ls)
 onto_lined b [] h k = (and_from (line_byte b) true h refl, tt)
 onto_lined b (l ∷ ls) h k = (and_from (line_byte b) (each line_byte l) h k.0, k.1)
 
-lines_lined : (s : List ℕ) → each text_byte s ≡ true → All (λ l. each line_byte l ≡ true) (lines s)
+lines_lined : (s : List ℕ) → each text_byte s ≡ true → AllByRecursion (λ l. each line_byte l ≡ true) (lines s)
 lines_lined [] h = tt
 lines_lined (b ∷ s) h =
     let q = and_parts (text_byte b) (each text_byte s) h in
     go (lines_lined s q.1) (eqb b 10) refl q.0
   where
-    go : All (λ l. each line_byte l ≡ true) (lines s) → (x : Bool) → eqb b 10 ≡ x → text_byte b ≡ true → All (λ l. each line_byte l ≡ true) (cutting x b (lines s))
+    go : AllByRecursion (λ l. each line_byte l ≡ true) (lines s) → (x : Bool) → eqb b 10 ≡ x → text_byte b ≡ true → AllByRecursion (λ l. each line_byte l ≡ true) (cutting x b (lines s))
     go k true e g = (refl, k)
     go k false e g = onto_lined b (lines s) (sym (λ d. e d || line_byte b) ∙ g) k
 

@@ -1,6 +1,6 @@
 -- A list has an accepted slip exactly if it is good.
 use Rattle.std.proofs.Common.{◌≡◌, ℕ, ◌<◌, true, List, length, Ok, refl, arith}
-use Rattle.std.specs.List.{AllByRecursion as All}
+use Rattle.std.specs.List.{AllByRecursion}
 use Rattle.std.proofs.ByRecursion.{All-append}
 use Rattle.facts.specs.States.{State, within}
 use Rattle.rules.specs.Rules.{Tree, Derives}
@@ -56,7 +56,7 @@ module _ (t : Table) (proper : ProperTable t) where
   accepts_good O G L o g j = (λ h. accepted_good h.0 O G L h.1, λ good. (slip_text t O G L, (writes_accepted O G L o g j good).0))
 
   -- and its states and jobs are of the table
-  known : {x : Tree} {O E : State} {L : List ℕ} → Derives (job_at t) x O E L → (ls : List (List ℕ)) → SpeltLines t x ls → All (λ k. k < length t.jobs) L
+  known : {x : Tree} {O E : State} {L : List ℕ} → Derives (job_at t) x O E L → (ls : List (List ℕ)) → SpeltLines t x ls → AllByRecursion (λ k. k < length t.jobs) L
   known by_H ls s = tt
   known (by_A k) ls s = (s.0, tt)
   known (by_C {L₁ = L} {L₂ = M} d e c) ls s = All-append (λ k. k < length t.jobs) L M (known d s.left s.first) (known e s.right s.second)

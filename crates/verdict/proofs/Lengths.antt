@@ -1,6 +1,6 @@
 -- How long a written slip is.
 use Rattle.std.proofs.Common.{◌≡◌, ℕ, suc, ◌+◌, ◌*◌, ◌<◌, ◌≤◌, true, ◌&&◌, leb, List, [], ◌∷◌, ◌++◌, map, length, get_or, arith, length-append}
-use Rattle.std.specs.List.{AllByRecursion as All}
+use Rattle.std.specs.List.{AllByRecursion}
 use Rattle.std.proofs.lemmas.Bool.{and_parts, leb-true}
 use Rattle.facts.specs.declared.mark.Mark.TheVariants.{Unnamed, Holds, Fails}
 use Rattle.facts.specs.States.{State, nothing, overridden}
@@ -74,7 +74,7 @@ module _ (t : Table) (proper : ProperTable t) where
       let n = name_short (job_name t k) (good_job t proper k h) in
       omega arith
 
-  steps_short : (P : State) (k : ℕ) (L : List ℕ) → StateOver t P → k < length t.jobs → All (λ m. m < length t.jobs) L → length (closed (tree_lines t (steps (job_at t) P k L))) ≤ 6685 + 6687 * length L
+  steps_short : (P : State) (k : ℕ) (L : List ℕ) → StateOver t P → k < length t.jobs → AllByRecursion (λ m. m < length t.jobs) L → length (closed (tree_lines t (steps (job_at t) P k L))) ≤ 6685 + 6687 * length L
   steps_short P k [] o h known = let a = job_short P k o h in omega arith
   steps_short P k (m ∷ L) o h known =
       let a = job_short P k o h in

@@ -1,6 +1,6 @@
 -- States over a table's facts, and trees made of them.
 use Rattle.std.proofs.Common.{◌≡◌, ℕ, ◌<◌, true, List, [], ◌∷◌, map, length, get_or, sym, refl, ap, ◌∙◌, ⊎_elim, arith}
-use Rattle.std.specs.List.{AllByRecursion as All}
+use Rattle.std.specs.List.{AllByRecursion}
 use Rattle.std.proofs.lemmas.Bool.{and_parts, and_from}
 use Rattle.facts.specs.declared.mark.Mark.{Mark}
 use Rattle.facts.specs.States.{State, mark, named, within, less_one, overridden, without}
@@ -52,7 +52,7 @@ module _ (t : Table) (proper : ProperTable t) where
   over_beside P k o h = over_without t (without P (job_at t k).precondition) (job_at t k).effect (over_without t P (job_at t k).precondition o (row k).precondition) (row k).effect
 
   -- the jobs of a list name only facts of the table
-  all_inside : (L : List ℕ) → All (λ k. k < length t.jobs) L → jobs_within (length t.facts) (map (job_at t) L) ≡ true
+  all_inside : (L : List ℕ) → AllByRecursion (λ k. k < length t.jobs) L → jobs_within (length t.facts) (map (job_at t) L) ≡ true
   all_inside [] a = refl
   all_inside (k ∷ L) a = and_from (job_within (length t.facts) (job_at t k)) (jobs_within (length t.facts) (map (job_at t) L)) (job_inside k a.0) (all_inside L a.1)
 
@@ -66,7 +66,7 @@ module _ (t : Table) (proper : ProperTable t) where
   job_spelt : (P : State) (k : ℕ) → StateOver t P → k < length t.jobs → SpeltLines t (one_job (job_at t) P k) (tree_lines t (one_job (job_at t) P k))
   job_spelt P k o h = stated 70 (beside P (job_at t k)) (A k) (over_beside P k o h) (h, refl)
 
-  steps_spelt : (P : State) (k : ℕ) (L : List ℕ) → StateOver t P → k < length t.jobs → All (λ m. m < length t.jobs) L → SpeltLines t (steps (job_at t) P k L) (tree_lines t (steps (job_at t) P k L))
+  steps_spelt : (P : State) (k : ℕ) (L : List ℕ) → StateOver t P → k < length t.jobs → AllByRecursion (λ m. m < length t.jobs) L → SpeltLines t (steps (job_at t) P k L) (tree_lines t (steps (job_at t) P k L))
   steps_spelt P k [] o h a = job_spelt P k o h
   steps_spelt P k (m ∷ L) o h a = record { left = tree_lines t (one_job (job_at t) P k); right = tree_lines t (steps (job_at t) (overridden P (job_at t k).effect) m L); lines = refl; first = job_spelt P k o h; second = steps_spelt (overridden P (job_at t k).effect) m L (over_effect P k o h) a.0 a.1 }
 

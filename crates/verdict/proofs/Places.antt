@@ -1,6 +1,6 @@
 -- States of 256 places.
 use Rattle.std.proofs.Common.{◌≡◌, ℕ, zero, suc, List, [], ◌∷◌, length, get_or, set, sym, refl, ap, ◌∙◌, inl, inr, length-set}
-use Rattle.std.specs.List.{AllByRecursion as All}
+use Rattle.std.specs.List.{AllByRecursion}
 use Rattle.facts.specs.States.{State, sign, nothing, over_one, overridden}
 use Rattle.facts.proofs.Scans.{length_blend}
 use Rattle.names.specs.Spelling.{Literal, Adds, Denotes}
@@ -22,7 +22,7 @@ pub denotes_places : (facts : List (List ℕ)) (f : List ℕ) (s : State) → De
 denotes_places facts f s (inl h) = ap (λ (x : State). length x) h.1
 denotes_places facts f s (inr h) = adds_places (length facts) nothing (h.first ∷ h.rest) s h.adds
 
-pub full_at : (rs : List Row) (k : ℕ) → All FullRow rs → FullRow (get_or rs k no_row)
+pub full_at : (rs : List Row) (k : ℕ) → AllByRecursion FullRow rs → FullRow (get_or rs k no_row)
 full_at [] k a = record { precondition = refl; effect = refl }
 full_at (r ∷ rs) zero a = a.0
 full_at (r ∷ rs) (suc k) a = full_at rs k a.1

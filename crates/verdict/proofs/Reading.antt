@@ -1,8 +1,7 @@
 -- What is read as a derivation is spelt so, and the six rules make it one.
 use Rattle.std.proofs.Common.{◌≡◌, ℕ, zero, suc, ◌<◌, ◌≤◌, true, not, List, [], ◌∷◌, ◌++◌, length, get_or, Some, Ok, sym, refl, ap, ◌∙◌, subst, append_assoc, append-nil, arith}
-use lib.ListN.{length-map}
-use Rattle.std.specs.List.{AllByRecursion as All}
-use Rattle.std.proofs.lemmas.List.{length_push}
+use Rattle.std.proofs.lemmas.List.{length-map, length_push}
+use Rattle.std.specs.List.{AllByRecursion}
 use Rattle.std.proofs.lemmas.Bool.{leb-false, not-false, or_parts}
 use Rattle.facts.specs.States.{State, overridden, covers, apart}
 use Rattle.facts.proofs.Tests.{covers_decides, apart_decides}
@@ -68,7 +67,7 @@ abbrev Whole : (t : Table) (left : ℕ) (bar : State) (c : Cursor) → Ends × C
 Whole t left bar c p = Front t left bar c p.1 p.0
 
 -- one line, its premises read by `read`
-module _ (t : Table) (full : All FullRow t.jobs) (left : ℕ) (read : Reader) (ih : (bar : State) (c : Cursor) (p : Ends × Cursor) → read bar c ≡ Ok p → Whole t left bar c p) (bar : State) (c : Cursor) (l : List ℕ) (ls : List (List ℕ)) (here : c.rest ≡ l ∷ ls) where
+module _ (t : Table) (full : AllByRecursion FullRow t.jobs) (left : ℕ) (read : Reader) (ih : (bar : State) (c : Cursor) (p : Ends × Cursor) → read bar c ≡ Ok p → Whole t left bar c p) (bar : State) (c : Cursor) (l : List ℕ) (ls : List (List ℕ)) (here : c.rest ≡ l ∷ ls) where
   abbrev f : List ℕ
   f = get_or (fields l) 1 []
 
@@ -238,7 +237,7 @@ line_ok : (rest : List (List ℕ)) (c : Cursor) (f : rules.Rule → List (List �
 line_ok [] c f p h = let z : ◌≡◌ {A = ℕ} 0 1 = cc in absurd (omega arith)
 line_ok (l ∷ ls) c f p h = let a = then_ok _ _ _ h in record { line = l; lines = ls; rule = a.value; is = refl; tag = a.first; then_so = a.second }
 
-pub derivation_read : (t : Table) → All FullRow t.jobs → (left : ℕ) (bar : State) (c : Cursor) (p : Ends × Cursor) → derivation t left bar c ≡ Ok p → Whole t left bar c p
+pub derivation_read : (t : Table) → AllByRecursion FullRow t.jobs → (left : ℕ) (bar : State) (c : Cursor) (p : Ends × Cursor) → derivation t left bar c ≡ Ok p → Whole t left bar c p
 derivation_read t full zero bar c p h = let a = line_ok c.rest c _ p h in let k = a.then_so in let z : ◌≡◌ {A = ℕ} 0 1 = cc in absurd (omega arith)
 derivation_read t full (suc left) bar c p h =
     let a = line_ok c.rest c _ p h in

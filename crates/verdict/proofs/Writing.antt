@@ -1,7 +1,7 @@
 -- What is spelt as a slip, and derives, is accepted.
 use Rattle.std.proofs.Common.{◌≡◌, ℕ, zero, suc, ◌+◌, ◌<◌, ◌≤◌, Bool, true, not, ◌&&◌, ◌||◌, List, [], ◌∷◌, ◌++◌, length, get_or, Some, Ok, Result, sym, refl, ap, ◌∙◌, subst, append_assoc, append-nil, arith, length-append}
-use lib.ListN.{length-map}
-use Rattle.std.specs.List.{AllByRecursion as All}
+use Rattle.std.proofs.lemmas.List.{length-map}
+use Rattle.std.specs.List.{AllByRecursion}
 use Rattle.std.proofs.ByRecursion.{All-append}
 use Rattle.std.proofs.lemmas.Bool.{and_parts, lt-leb}
 use Rattle.facts.specs.States.{State, mark, nothing, overridden, covers, same, apart}
@@ -23,14 +23,13 @@ use Rattle.names.specs.Literals.{state_field}
 use Rattle.text.specs.Spelling.{closed}
 use Rattle.names.specs.Spelling.{Denotes}
 use Rattle.text.proofs.Joins.{parts_join, lines_closed}
-use Rattle.names.proofs.Plain.{plain_byte, good_plain}
+use Rattle.names.proofs.Plain.{plain_byte, good_plain, tabless, lined, all_free}
 use Rattle.text.proofs.Lists.{each_at}
 use Rattle.names.proofs.Writing.{found_self, field_spelt, field_plain}
 use Rattle.text.proofs.Endings.{line_byte, looked_closed}
 use Rattle.table.specs.Rows.{Row, job_names}
 use Rattle.table.specs.Tables.{Table, place}
 use Rattle.table.specs.Jobs.{job_number, job_at}
-use Rattle.names.proofs.Plain.{tabless, lined, all_free}
 use Rattle.verdict.specs.declared.fault.SlipFault.{SlipFault}
 use Rattle.verdict.specs.declared.fault.SlipFault.TheVariants.{Text, WeakenUncovered, ComposeUncovered, ShrinkUncovered, EffectBarred, FrameNamed, TooManyJobs, OpeningDiffers, EndDiffers}
 use Rattle.verdict.specs.declared.rule.Rule as rules
@@ -161,13 +160,13 @@ module _ (t : Table) (proper : ProperTable t) where
   tagged_lined : (b : ℕ) (f : List ℕ) → line_byte b ≡ true → each plain_byte f ≡ true → each line_byte (tagged b f) ≡ true
   tagged_lined b f h p = (λ i. h i && each line_byte f) ∙ lined f p
 
-  tree_lined : (x : Tree) (ls : List (List ℕ)) → SpeltLines t x ls → All (λ l. each line_byte l ≡ true) ls
-  tree_lined H ls s = subst (All (λ l. each line_byte l ≡ true)) (sym s) (refl, tt)
-  tree_lined (A k) ls s = subst (All (λ l. each line_byte l ≡ true)) (sym s.1) (tagged_lined 65 (job_name t k) refl (good_plain (job_name t k) (good_job k s.0)), tt)
-  tree_lined (C x y) ls s = subst (All (λ l. each line_byte l ≡ true)) (sym s.lines) (refl, All-append (λ l. each line_byte l ≡ true) s.left s.right (tree_lined x s.left s.first) (tree_lined y s.right s.second))
-  tree_lined (W P x) ls s = subst (All (λ l. each line_byte l ≡ true)) (sym s.lines) (tagged_lined 87 s.field refl (plain s.field P s.state), tree_lined x s.rest s.premise)
-  tree_lined (S Q x) ls s = subst (All (λ l. each line_byte l ≡ true)) (sym s.lines) (tagged_lined 83 s.field refl (plain s.field Q s.state), tree_lined x s.rest s.premise)
-  tree_lined (F R x) ls s = subst (All (λ l. each line_byte l ≡ true)) (sym s.lines) (tagged_lined 70 s.field refl (plain s.field R s.state), tree_lined x s.rest s.premise)
+  tree_lined : (x : Tree) (ls : List (List ℕ)) → SpeltLines t x ls → AllByRecursion (λ l. each line_byte l ≡ true) ls
+  tree_lined H ls s = subst (AllByRecursion (λ l. each line_byte l ≡ true)) (sym s) (refl, tt)
+  tree_lined (A k) ls s = subst (AllByRecursion (λ l. each line_byte l ≡ true)) (sym s.1) (tagged_lined 65 (job_name t k) refl (good_plain (job_name t k) (good_job k s.0)), tt)
+  tree_lined (C x y) ls s = subst (AllByRecursion (λ l. each line_byte l ≡ true)) (sym s.lines) (refl, All-append (λ l. each line_byte l ≡ true) s.left s.right (tree_lined x s.left s.first) (tree_lined y s.right s.second))
+  tree_lined (W P x) ls s = subst (AllByRecursion (λ l. each line_byte l ≡ true)) (sym s.lines) (tagged_lined 87 s.field refl (plain s.field P s.state), tree_lined x s.rest s.premise)
+  tree_lined (S Q x) ls s = subst (AllByRecursion (λ l. each line_byte l ≡ true)) (sym s.lines) (tagged_lined 83 s.field refl (plain s.field Q s.state), tree_lined x s.rest s.premise)
+  tree_lined (F R x) ls s = subst (AllByRecursion (λ l. each line_byte l ≡ true)) (sym s.lines) (tagged_lined 70 s.field refl (plain s.field R s.state), tree_lined x s.rest s.premise)
 
   -- a header line
   header_written : (wanted : headers.Header) (f : List ℕ) (P : State) → Denotes t.facts f P → (c : Cursor) (ls : List (List ℕ)) → c.rest ≡ tagged (header_letter wanted) f ∷ ls → header t wanted c ≡ Ok (P, past c ls)
@@ -197,7 +196,7 @@ module _ (t : Table) (proper : ProperTable t) where
       let b = tagged 66 x.first in
       let g = tagged 71 x.second in
       let ls = b ∷ g ∷ x.rest in
-      let bytes : All (λ l. each line_byte l ≡ true) ls = (tagged_lined 66 x.first refl (plain x.first O x.opening), (tagged_lined 71 x.second refl (plain x.second G x.goal), tree_lined x.tree x.rest x.spelt)) in
+      let bytes : AllByRecursion (λ l. each line_byte l ≡ true) ls = (tagged_lined 66 x.first refl (plain x.first O x.opening), (tagged_lined 71 x.second refl (plain x.second G x.goal), tree_lined x.tree x.rest x.spelt)) in
       let c0 : Cursor = record { line = 1; rest = ls; jobs = [] } in
       let c1 = past c0 (g ∷ x.rest) in
       let c2 = past c1 x.rest in

@@ -1,6 +1,6 @@
 -- The great statements: which slips are accepted, and which lists have one.
 use Rattle.std.specs.Prelude.{◌≡◌, ℕ, ◌<◌, ◌≤◌, true, List, map, length, Ok}
-use Rattle.std.specs.List.{AllByRecursion as All}
+use Rattle.std.specs.List.{AllByRecursion}
 use Rattle.facts.specs.States.{State, Within, within}
 use Rattle.facts.specs.Words.{Exactly}
 use Rattle.lists.specs.Lists.{Good}
@@ -22,7 +22,7 @@ pub record ProperTable (t : Table) : Type 0 where
   pub few : length t.facts ≤ 256
   pub facts : proper_names t.facts ≡ true
   pub jobs : proper_jobs (length t.facts) t.jobs ≡ true
-  pub places : All FullRow t.jobs
+  pub places : AllByRecursion FullRow t.jobs
 
 -- a state over the table's facts, in 256 places
 pub record StateOver (t : Table) (s : State) : Type 0 where
@@ -32,7 +32,7 @@ pub record StateOver (t : Table) (s : State) : Type 0 where
 -- up to 64 jobs of the table, by their numbers
 pub record JobsOf (t : Table) (L : List ℕ) : Type 0 where
   pub few : length L ≤ 64
-  pub known : All (λ k. k < length t.jobs) L
+  pub known : AllByRecursion (λ k. k < length t.jobs) L
 
 -- the list is good: it works in every world of the table's number of facts that meets the opening
 abbrev pub GoodJobs : Table → State → State → List ℕ → Type 0

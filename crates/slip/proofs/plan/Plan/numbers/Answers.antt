@@ -1,5 +1,5 @@
 use Rattle.std.proofs.Common.{◌≡◌, ◌-◌, List, length, take, ap, arith}
-use lib.ListN.{length-map}
+use Rattle.std.proofs.lemmas.List.{length-map}
 use Rattle.facts.specs.Worlds.{Job}
 use Rattle.facts.specs.Models.{job_of}
 use Rattle.slip.specs.Plans.{plan_of}

@@ -1,6 +1,5 @@
 use Rattle.std.proofs.Common.{◌≡◌, map, length, take, sym, ap, ◌∙◌, subst, arith}
-use lib.ListN.{length-map}
-use Rattle.std.proofs.lemmas.List.{length-take-le}
+use Rattle.std.proofs.lemmas.List.{length-map, length-take-le}
 use Rattle.facts.specs.Models.{row}
 use Rattle.lists.specs.Models.{Listed, GoodList}
 use Rattle.table.specs.Models.{table_of}
@@ -8,11 +7,8 @@ use Rattle.table.specs.Jobs.{job_at}
 use Rattle.verdict.specs.Verdicts.{Plan}
 use Rattle.slip.proofs.plan.Plan.of.Goals as goal
 
-pub invariant_of-result : goal.invariant_of-result
-invariant_of-result c = record {
-  places = c.args.draft.now.places;
-  good = ∣ subst GoodList (sym c.list_of-list.ensures.value) c.requires.good ∣₁;
-}
+pub invariant_of-result-clause-good : goal.invariant_of-result-clause-good
+invariant_of-result-clause-good c = ∣ subst GoodList (sym c.list_of-list.ensures.value) c.requires.good ∣₁
 
 pub returns : goal.returns
 returns c =

@@ -12,7 +12,7 @@ use crate::bar::Bar;
 use crate::draft::Draft;
 use crate::ends::Ends;
 use crate::reader::Reader;
-use crate::reader::rules::MAX_DEPTH;
+use crate::reader::derivations::MAX_DEPTH;
 use facts::State;
 use table::Table;
 use text::look;

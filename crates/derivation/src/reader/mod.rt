@@ -1,9 +1,9 @@
 //! A slip read line by line.
 ghost use Rattle.std.specs.Prelude.{◌≡◌, ◌+◌, ◌≤◌, length};
 
+pub(crate) mod derivations;
 mod jobs;
 mod lines;
-pub(crate) mod rules;
 
 use lists::MAX_JOBS;
 use text::Lines;

@@ -5,7 +5,7 @@ use Rattle.verdict.specs.Verdicts.{derivation}
 use Rattle.derivation.specs.Models.{bar_of}
 use Rattle.derivation.specs.Readers.{cursor_of}
 use Rattle.derivation.proofs.Steps.{at_end, at_tag, at_rule, says_like, says_err}
-use Rattle.derivation.proofs.reader.Reader.+by_rule_compose_frame_premises_rule_shrink_weaken.Goals as goal
+use Rattle.derivation.proofs.reader.Reader.+six_rules.Goals as goal
 
 pub rule-returns-in_default : goal.rule-returns-in_default
 rule-returns-in_default t c = record { reads = at_end (table_of c.args.table.now) c.args.left (bar_of c.args.bar.now) (cursor_of c.args.self.now) c.in_default.ensures.cases.0; bar = search rules }

@@ -21,7 +21,7 @@ pub(crate) const MAX_DEPTH: u8 = 80;
 
 impl Reader<'_> {
     /// The ends of the derivation that begins with the next line, where at most `left` lines stand above each other.
-    #[cycle(by_rule_compose_frame_premises_rule_shrink_weaken)]
+    #[cycle(six_rules)]
     pub(crate) fn rule(&mut self, table: &Table, bar: &mut Bar, left: u8) -> Result<Ends, SlipFault>
         ensures reads { Says ends_of result (cursor_of self.new) (derivation (table_of table.now) left (bar_of bar.old) (cursor_of self.old)) }
         ensures bar { bar.new ≡ bar.old }
@@ -38,7 +38,7 @@ impl Reader<'_> {
     }
 
     /// The ends of the derivation whose first line is this one.
-    #[cycle(by_rule_compose_frame_premises_rule_shrink_weaken)]
+    #[cycle(six_rules)]
     fn by_rule(
         &mut self,
         table: &Table,
@@ -62,7 +62,7 @@ impl Reader<'_> {
     }
 
     /// Two derivations, the second from where the first ends.
-    #[cycle(by_rule_compose_frame_premises_rule_shrink_weaken)]
+    #[cycle(six_rules)]
     fn compose(
         &mut self,
         table: &Table,
@@ -84,7 +84,7 @@ impl Reader<'_> {
     }
 
     /// The two premises of a C line.
-    #[cycle(by_rule_compose_frame_premises_rule_shrink_weaken)]
+    #[cycle(six_rules)]
     fn premises(
         &mut self,
         table: &Table,
@@ -100,7 +100,7 @@ impl Reader<'_> {
     }
 
     /// An opening that covers the premise's.
-    #[cycle(by_rule_compose_frame_premises_rule_shrink_weaken)]
+    #[cycle(six_rules)]
     fn weaken(
         &mut self,
         table: &Table,
@@ -124,7 +124,7 @@ impl Reader<'_> {
     }
 
     /// An end that the premise's covers.
-    #[cycle(by_rule_compose_frame_premises_rule_shrink_weaken)]
+    #[cycle(six_rules)]
     fn shrink(
         &mut self,
         table: &Table,
@@ -145,7 +145,7 @@ impl Reader<'_> {
     }
 
     /// A state beside the premise, whose facts are barred while that is read.
-    #[cycle(by_rule_compose_frame_premises_rule_shrink_weaken)]
+    #[cycle(six_rules)]
     fn frame(
         &mut self,
         table: &Table,

@@ -1,5 +1,5 @@
 use Rattle.std.proofs.Common.{◌+◌, ◌*◌}
-use Rattle.derivation.proofs.reader.Reader.+by_rule_compose_frame_premises_rule_shrink_weaken.Given as goal
+use Rattle.derivation.proofs.reader.Reader.+six_rules.Given as goal
 
 -- the remaining depth falls; at one depth a line is read before its rule is looked at, and that before its premises
 abbrev pub decreases-by_rule : goal.decreases-by_rule

@@ -55,8 +55,8 @@ fn run(rt: &HostRuntime) -> Result<(), Quit> {
         "demo" => demo::run(rt),
         "help" => usage(rt),
         other => {
-            let fault = format!(in rt.alloc(); "no command {other}; see: changeover help")?;
-            Err(Quit::Failed(anyhow::Error::msg(fault)))
+            eprintln!(rt; "changeover: no command {other}; see: changeover help")?;
+            Err(Quit::Told)
         }
     }
 }

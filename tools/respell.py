@@ -19,8 +19,8 @@ CLAUSE = re.compile(r"^\s*(pub )?(ghost|requires|ensures)\b|^\s*(→|×|⊎)")
 BOUND = {"code-world", "code-state", "code-job", "code-ends", "code-reader"}
 BOUND |= {"O-is", "G-is", "L-is", "o-size", "g-size", "apart-both", "not-ok"}
 
-# Names whose camel case is that of a variant which stands beside them.
-OTHER = {"Job-fails": "FailsAtJob", "Goal-fails": "FailsAtGoal"}
+# Names whose camel case is that of a variant which stands beside them, and one with an old word of the library.
+OTHER = {"Job-fails": "FailsAtJob", "Goal-fails": "FailsAtGoal", "getD-everywhere": "get_or_everywhere"}
 
 
 def is_answers(path):

@@ -29,13 +29,13 @@ mark_unmet w (m ∷ s) zero = refl
 mark_unmet w (m ∷ s) (suc i) = mark_unmet (λ k. w (suc k)) s i
 
 -- what stands everywhere is read everywhere, and past the end too
-pub getD_everywhere : {X : Type 0} (n i : ℕ) (x : X) → get_or (replicate n x) i x ≡ x
-getD_everywhere zero i x = refl
-getD_everywhere (suc n) zero x = refl
-getD_everywhere (suc n) (suc i) x = getD_everywhere n i x
+pub get_or_everywhere : {X : Type 0} (n i : ℕ) (x : X) → get_or (replicate n x) i x ≡ x
+get_or_everywhere zero i x = refl
+get_or_everywhere (suc n) zero x = refl
+get_or_everywhere (suc n) (suc i) x = get_or_everywhere n i x
 
 pub mark_nothing : (i : ℕ) → mark nothing i ≡ Unnamed
-mark_nothing i = getD_everywhere 256 i Unnamed
+mark_nothing i = get_or_everywhere 256 i Unnamed
 
 -- what follows is at one fact: p, q, e, o are marks, x is whether it holds
 pub sign_named : (p : Mark) (b : Bool) → p ≡ sign b → named p ≡ true

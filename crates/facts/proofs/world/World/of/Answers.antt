@@ -1,11 +1,11 @@
 use Rattle.std.proofs.Common.{◌≡◌, ℕ, false, get_or, sym, refl, ◌∙◌, ⊎_elim, arith}
 use Rattle.std.proofs.lemmas.List.{get_or_past}
 use Rattle.std.proofs.lemmas.Bool.{cases_lt}
-use Rattle.facts.proofs.Marks.{getD_everywhere}
+use Rattle.facts.proofs.Marks.{get_or_everywhere}
 use Rattle.facts.proofs.world.World.of.Goals as goal
 
 pub loop-i-init : goal.loop-i-init
-loop-i-init c = (refl, λ k h. absurd (omega arith), λ k h. getD_everywhere 256 k false)
+loop-i-init c = (refl, λ k h. absurd (omega arith), λ k h. get_or_everywhere 256 k false)
 
 pub returns : goal.returns
 returns c =

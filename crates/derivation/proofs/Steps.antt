@@ -1,17 +1,18 @@
 -- One line of a derivation.
-use Rattle.std.proofs.Common.{◌≡◌, ℕ, zero, suc, ◌-◌, List, [], ◌∷◌, length, Ok, Err, Result, sym, refl, ap, ◌∙◌, subst, arith}
+use Rattle.std.proofs.Common.{◌≡◌, ℕ, zero, suc, ◌-◌, List, length, Some, Ok, Err, Result, sym, refl, ap, ◌∙◌, subst, arith}
 use Rattle.facts.specs.States.{State, nothing}
+use Rattle.text.specs.declared.line.Line.{Line}
 use Rattle.text.specs.Chains.{then}
 use Rattle.text.specs.Lines.{fields}
 use Rattle.text.specs.Tags.{tag_of}
 use Rattle.table.specs.Tables.{Table}
 use Rattle.verdict.specs.declared.fault.SlipFault.{SlipFault}
-use Rattle.verdict.specs.declared.fault.SlipFault.TheVariants.{EndsEarly, TooDeep}
+use Rattle.verdict.specs.declared.fault.SlipFault.TheVariants.{TooDeep}
 use Rattle.verdict.specs.declared.rule.Rule.{Rule}
 use Rattle.verdict.specs.Lines.{rule_tag}
 use Rattle.derivation.specs.declared.ends.Ends as code
-use Rattle.derivation.specs.Readers.{ends_of, Says}
-use Rattle.verdict.specs.Verdicts.{Plan, Ends, Cursor, Read, past, by_rule, rule_line, derivation, judge, judge_under}
+use Rattle.derivation.specs.Readers.{ends_of, Took, Says}
+use Rattle.verdict.specs.Verdicts.{Plan, Ends, Cursor, Read, by_rule, rule_line, derivation, judge, judge_under}
 
 -- what follows the tag of a rule line
 abbrev pub deeper : Table → ℕ → State → ℕ → Rule → List (List ℕ) → Cursor → Read Ends
@@ -22,30 +23,23 @@ lined : (t : Table) (n : ℕ) (bar : State) (c : Cursor) → derivation t n bar 
 lined t zero bar c = refl
 lined t (suc n) bar c = refl
 
-pub at_end : (t : Table) (n : ℕ) (bar : State) (c : Cursor) → c.rest ≡ [] → derivation t n bar c ≡ Err (EndsEarly c.line)
-at_end t n bar c e = lined t n bar c ∙ ap (λ ls. rule_line ls c (deeper t n bar c.line)) e
-
-at_line : (t : Table) (n : ℕ) (bar : State) (c d : Cursor) (l : List ℕ) → c.rest ≡ l ∷ d.rest → d ≡ past c d.rest → derivation t n bar c ≡ then (rule_tag (tag_of l) (length (fields l)) c.line) (λ r. deeper t n bar c.line r (fields l) d)
-at_line t n bar c d l e p =
+tagged : (t : Table) (n : ℕ) (bar : State) (c d : Cursor) (l : Line) (o : Result Rule SlipFault) → Took c (Some l) d → o ≡ rule_tag (tag_of l.text.now) (length (fields l.text.now)) l.number → derivation t n bar c ≡ then o (λ r. deeper t n bar l.number r (fields l.text.now) d)
+tagged t n bar c d l o (e, k, p) h =
     lined t n bar c
     ∙ ap (λ ls. rule_line ls c (deeper t n bar c.line)) e
-    ∙ ap (λ x. then (rule_tag (tag_of l) (length (fields l)) c.line) (λ r. deeper t n bar c.line r (fields l) x)) (sym p)
+    ∙ ap (λ x. then (rule_tag (tag_of l.text.now) (length (fields l.text.now)) c.line) (λ r. deeper t n bar c.line r (fields l.text.now) x)) (sym p)
+    ∙ ap (λ x. then (rule_tag (tag_of l.text.now) (length (fields l.text.now)) x) (λ r. deeper t n bar x r (fields l.text.now) d)) (sym k)
+    ∙ ap (λ x. then x (λ r. deeper t n bar l.number r (fields l.text.now) d)) (sym h)
 
--- a line that is no rule line, or one that is
-pub at_tag : (t : Table) (n : ℕ) (bar : State) (c d : Cursor) (l : List ℕ) (o : Result Rule SlipFault) → c.rest ≡ l ∷ d.rest → d ≡ past c d.rest → o ≡ rule_tag (tag_of l) (length (fields l)) c.line → derivation t n bar c ≡ then o (λ r. deeper t n bar c.line r (fields l) d)
-at_tag t n bar c d l o e p h = at_line t n bar c d l e p ∙ ap (λ x. then x (λ r. deeper t n bar c.line r (fields l) d)) (sym h)
-
-pub at_rule : (t : Table) (n : ℕ) (bar : State) (c d : Cursor) (l : List ℕ) (r : Rule) → (n ≡ 0 → ⊥) → c.rest ≡ l ∷ d.rest → d ≡ past c d.rest → Ok r ≡ rule_tag (tag_of l) (length (fields l)) c.line → derivation t n bar c ≡ by_rule t r (derivation t (n - 1)) bar c.line (fields l) d
-at_rule t n bar c d l r pos e p h =
+-- a line that is a rule line
+pub at_rule : (t : Table) (n : ℕ) (bar : State) (c d : Cursor) (l : Line) (r : Rule) → (n ≡ 0 → ⊥) → Took c (Some l) d → Ok r ≡ rule_tag (tag_of l.text.now) (length (fields l.text.now)) l.number → derivation t n bar c ≡ by_rule t r (derivation t (n - 1)) bar l.number (fields l.text.now) d
+at_rule t n bar c d l r pos took h =
     let m : n ≡ suc (n - 1) = omega arith in
-    at_tag t n bar c d l (Ok r) e p h ∙ ap (λ k. deeper t k bar c.line r (fields l) d) m
+    tagged t n bar c d l (Ok r) took h ∙ ap (λ k. deeper t k bar l.number r (fields l.text.now) d) m
 
 -- what a call answers, where the definition comes out alike
 pub says_like : (r : Result code.Ends SlipFault) (d : Cursor) (o p : Read Ends) → o ≡ p → Says ends_of r d p → Says ends_of r d o
 says_like r d o p e h = subst (λ (x : Read Ends). Says ends_of r d x) (sym e) h
-
-pub says_err : (r : Result code.Ends SlipFault) (d : Cursor) (o : Read Ends) (e f : SlipFault) → r ≡ Err f → f ≡ e → o ≡ Err e → Says ends_of r d o
-says_err r d o e f p q h = subst (λ (x : Result code.Ends SlipFault). Says ends_of x d o) (sym p) (h ∙ ap Err (sym q))
 
 -- a verdict with nothing barred
 pub none_barred : (t : Table) (s : List ℕ) (b : State) (r : Result Plan SlipFault) → b ≡ nothing → r ≡ judge_under t b s → r ≡ judge t s

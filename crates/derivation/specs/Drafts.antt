@@ -1,5 +1,4 @@
 -- What stands in the code's drafts.
-use Rattle.std.specs.Prelude.{take}
 use Rattle.facts.specs.Models.{row}
 use Rattle.table.specs.Tables.{Table}
 use Rattle.verdict.specs.Verdicts.{Plan, plan_from}
@@ -7,4 +6,4 @@ use Rattle.derivation.specs.declared.draft.Draft.{Draft}
 
 -- a draft over a table
 abbrev pub draft_of : Table → Draft → Plan
-draft_of t d = plan_from t (row d.opening) (row d.goal) (take d.len d.numbers)
+draft_of t d = plan_from t (row d.opening) (row d.goal) d.numbers.items

@@ -1,7 +1,8 @@
 //! What a slip says, once it is read to its end.
-ghost use Rattle.std.specs.Prelude.{◌≡◌, ◌≤◌, length};
+ghost use Rattle.std.specs.Prelude.{◌≤◌, length};
 
 use facts::State;
+use filled::Filled;
 use lists::MAX_JOBS;
 
 /// The opening, the goal, and the numbers of the jobs in the table.
@@ -9,8 +10,6 @@ use lists::MAX_JOBS;
 pub struct Draft {
     pub opening: State,
     pub goal: State,
-    pub numbers: [u8; MAX_JOBS],
-    pub len: usize,
-    ghost places: { length numbers ≡ 64 },
-    ghost few: { len ≤ 64 },
+    pub numbers: Filled<u8, MAX_JOBS>,
+    ghost few: { length numbers.items ≤ 64 },
 }

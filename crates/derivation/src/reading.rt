@@ -12,10 +12,9 @@ use crate::bar::Bar;
 use crate::draft::Draft;
 use crate::ends::Ends;
 use crate::reader::Reader;
-use crate::reader::derivations::MAX_DEPTH;
+use crate::reader::derivations::Derivations;
 use facts::State;
 use table::Table;
-use text::look;
 use verdict::{Header, SlipFault};
 
 /// What the slip says, or its one refusal: its lines are those of an opening, a goal and a derivation, and the six rules
@@ -32,11 +31,10 @@ fn read_under(table: &Table, slip: &[u8], bar: &mut Bar) -> Result<Draft, SlipFa
     ensures value { mapped_ok (draft_of (table_of table.now)) result ≡ judge_under (table_of table.now) (bar_of bar.old) slip.now }
     ensures bar { bar.new ≡ bar.old }
 {
-    look(slip)?;
-    let mut reader = Reader::of(slip);
+    let mut reader = Reader::of(slip)?;
     let opening = reader.header(table, Header::Opening)?;
     let goal = reader.header(table, Header::Goal)?;
-    let ends = reader.rule(table, bar, MAX_DEPTH)?;
+    let ends = Derivations::whole(table, &mut reader, bar)?;
     reader.finish()?;
     agree(&opening, &goal, &ends)?;
     Ok(reader.draft(opening, goal))

@@ -1,5 +1,5 @@
 pub mod Marks
 pub mod Tests
-pub mod Loops
-pub mod Scans
 pub mod Meanings
+pub mod Scans
+pub mod Made

@@ -61,9 +61,7 @@ not_same false h = grind arith
 
 -- a literal of p overridden by e
 pub over_says : (p e : Mark) (b : Bool) → over_one p e ≡ sign b → (e ≡ sign b) ⊎ ((p ≡ sign b) × (named e ≡ true → ⊥))
-over_says p Unnamed b h = inr (h, λ k. grind arith)
-over_says p Holds b h = inl h
-over_says p Fails b h = inl h
+over_says p e b h = grind arith
 
 pub says_over : (p e : Mark) (b : Bool) → (e ≡ sign b) ⊎ ((p ≡ sign b) × (named e ≡ true → ⊥)) → over_one p e ≡ sign b
 says_over p e b h = grind arith

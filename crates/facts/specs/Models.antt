@@ -17,10 +17,10 @@ job_of j = record { precondition = row j.precondition; effect = row j.effect }
 
 -- a world is its number of facts and which of them hold
 abbrev pub size_of : code_world.World → ℕ
-size_of w = w.count
+size_of w = length w.facts.items
 
 abbrev pub seen : code_world.World → World
-seen w = λ i. slice_index_or w.facts i false
+seen w = λ i. slice_index_or w.facts.items i false
 
 -- an answer, with its value in the words of the definitions
 abbrev pub mapped_ok : {X Y E : Type 0} → (X → Y) → Result X E → Result Y E

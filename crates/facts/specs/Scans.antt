@@ -1,29 +1,21 @@
--- What a scan of 256 facts finds, for the contracts of the loops.
-use Rattle.std.specs.Prelude.{◌≡◌, ℕ, ◌<◌, ◌≤◌, Bool, true, false}
+-- What a scan of 256 facts finds, for the contracts and proofs of what goes fact by fact.
+use Rattle.std.specs.Prelude.{◌≡◌, ℕ, ◌<◌, Bool, true, false}
 use Rattle.facts.specs.declared.mark.Mark.{Mark}
-use Rattle.facts.specs.States.{State, mark, named, Named}
-use Rattle.facts.specs.Worlds.{World, agrees, unmet_one}
+use Rattle.facts.specs.States.{State, mark}
+use Rattle.facts.specs.Worlds.{World, agrees}
 
--- R is made of P and Q by f
-abbrev pub Blended : (Mark → Mark → Mark) → State → State → State → Type 0
-Blended f P Q R = (i : ℕ) → i < 256 → mark R i ≡ f (mark P i) (mark Q i)
+-- each call of a closure of two marks gives what f says
+abbrev pub Computes : {X : Type 0} → (Mark → Mark → X → Type 0) → (Mark → Mark → X) → Type 0
+Computes {X} gives f = (p q : Mark) (x : X) → gives p q x → x ≡ f p q
 
 -- P and Q pass the test f
 abbrev pub Everywhere : (Mark → Mark → Bool) → State → State → Type 0
 Everywhere f P Q = (i : ℕ) → i < 256 → f (mark P i) (mark Q i) ≡ true
 
--- no fact from n on is named
-abbrev pub NoneFrom : ℕ → State → Type 0
-NoneFrom n s = (i : ℕ) → n ≤ i → i < 256 → named (mark s i) ≡ false
-
--- fact i is named, and none below it
-abbrev pub First : State → ℕ → Type 0
-First s i = Named s i × ((k : ℕ) → k < i → named (mark s k) ≡ false)
+-- the test f fails of P and Q at a fact
+abbrev pub FailsSomewhere : (Mark → Mark → Bool) → State → State → Type 0
+FailsSomewhere f P Q = (i : ℕ) × (i < 256) × (f (mark P i) (mark Q i) ≡ false)
 
 -- each literal of s is true in w
 abbrev pub AllMet : World → State → Type 0
 AllMet w s = (i : ℕ) → i < 256 → agrees (mark s i) (w i) ≡ true
-
--- R has the literals of s that are not true in w
-abbrev pub Picked : World → State → State → Type 0
-Picked w s R = (i : ℕ) → i < 256 → mark R i ≡ unmet_one (mark s i) (w i)

@@ -1,9 +1,11 @@
 //! How a state speaks of one fact, and what is asked of one mark or two.
 ghost use Rattle.std.specs.Prelude.{◌≡◌};
-ghost use Rattle.facts.specs.States.{sign, named};
+ghost use Rattle.facts.specs.States.{sign, named, over_one, less_one, missing_one, covers_one, apart_one};
 ghost use Rattle.facts.specs.Worlds.{set_one};
 
 /// A state does not name the fact, or has its literal + (it holds) or - (it does not hold).
+///
+/// It is no `Option<bool>`: the three names say what `Some(false)` would not.
 #[derive(Clone, Copy, PartialEq, Eq, Debug)]
 pub enum Mark {
     Unnamed,
@@ -12,18 +14,11 @@ pub enum Mark {
 }
 
 /// The mark of a literal by its sign.
-pub(crate) fn signed(holds: bool) -> Mark
-    ensures value { result ≡ sign holds }
-{
-    if holds { Mark::Holds } else { Mark::Fails }
-}
+impl From<bool> for Mark {
+    ghost from_gives = { λ holds m. m ≡ sign holds };
 
-pub(crate) fn is_named(m: Mark) -> bool
-    ensures value { result ≡ named m }
-{
-    match m {
-        Mark::Unnamed => false,
-        Mark::Holds | Mark::Fails => true,
+    fn from(holds: bool) -> Mark {
+        if holds { Mark::Holds } else { Mark::Fails }
     }
 }
 
@@ -37,5 +32,57 @@ impl Mark {
             Mark::Holds => true,
             Mark::Fails => false,
         }
+    }
+
+    /// Whether there is a literal: a test by a name, for the definition of that name.
+    pub(crate) fn is_named(self) -> bool
+        ensures value { result ≡ named self }
+    {
+        self != Mark::Unnamed
+    }
+
+    /// The mark of `effect` where it names the fact, else this one.
+    pub(crate) fn overridden(self, effect: Mark) -> Mark
+        ensures value { result ≡ over_one self effect }
+    {
+        match effect {
+            Mark::Unnamed => self,
+            Mark::Holds | Mark::Fails => effect,
+        }
+    }
+
+    /// This mark where `other` does not name the fact.
+    pub(crate) fn without(self, other: Mark) -> Mark
+        ensures value { result ≡ less_one self other }
+    {
+        match other {
+            Mark::Unnamed => self,
+            Mark::Holds | Mark::Fails => Mark::Unnamed,
+        }
+    }
+
+    /// The mark of `wanted` where this one is another.
+    pub(crate) fn missing(self, wanted: Mark) -> Mark
+        ensures value { result ≡ missing_one self wanted }
+    {
+        if self == wanted {
+            Mark::Unnamed
+        } else {
+            wanted
+        }
+    }
+
+    /// Whether the literal of `other`, if there is one, is this one.
+    pub(crate) fn covers(self, other: Mark) -> bool
+        ensures value { result ≡ covers_one self other }
+    {
+        other == Mark::Unnamed || self == other
+    }
+
+    /// Whether not both name the fact.
+    pub(crate) fn is_apart(self, other: Mark) -> bool
+        ensures value { result ≡ apart_one self other }
+    {
+        !(self.is_named() && other.is_named())
     }
 }

@@ -1,12 +1,12 @@
 //! Fact readers: whatever tells which facts hold.
-ghost use Rattle.std.specs.Prelude.{◌≡◌, ℕ, Bool, Decides, MatchBool};
+ghost use Rattle.std.specs.Prelude.{◌≡◌, ℕ, Bool, Decides};
 ghost use Rattle.facts.specs.Worlds.{Sized, agrees, Meets, meets, unmet_one, unmet};
 ghost use Rattle.facts.specs.Models.{row};
-ghost use Rattle.facts.specs.Scans.{AllMet, Picked};
 ghost use Rattle.facts.specs.Words.{Unmet};
 
 use crate::mark::Mark;
-use crate::state::{MAX_FACTS, State};
+use crate::state::State;
+use std::array;
 
 /// Tells its number of facts and whether a fact holds. Its questions change nothing.
 pub trait FactReader {
@@ -29,7 +29,11 @@ pub fn meets<R: FactReader>(reader: &R, state: &State) -> bool
     ensures value { result ≡ meets (R.FactReader.fact reader.now) (row state.now) }
     ensures means { Decides result (Meets (R.FactReader.fact reader.now) (row state.now)) }
 {
-    all_met(reader, state)
+    state
+        .marks
+        .iter()
+        .enumerate()
+        .all(|(at, mark)| agrees(reader, at, *mark))
 }
 
 /// The literals of the state that are not true in what the reader tells.
@@ -37,30 +41,9 @@ pub fn unmet<R: FactReader>(reader: &R, state: &State) -> State
     ensures value { row result ≡ unmet (R.FactReader.fact reader.now) (row state.now) }
     ensures means { Unmet (R.FactReader.fact reader.now) (row state.now) (row result) }
 {
-    picked(reader, state)
-}
-
-/// Whether each literal is true, fact by fact.
-fn all_met<R: FactReader>(reader: &R, state: &State) -> bool
-    ensures facts { MatchBool result (AllMet (R.FactReader.fact reader.now) (row state.now)) (AllMet (R.FactReader.fact reader.now) (row state.now) → ⊥) }
-{
-    for at in 0..MAX_FACTS {
-        if !agrees(reader, at, state.marks[at]) {
-            return false;
-        }
+    State {
+        marks: array::from_fn(|at| unmet_at(reader, at, state.marks[at])),
     }
-    true
-}
-
-/// The literals that are not true, fact by fact.
-fn picked<R: FactReader>(reader: &R, state: &State) -> State
-    ensures facts { Picked (R.FactReader.fact reader.now) (row state.now) (row result) }
-{
-    let mut marks = [Mark::Unnamed; MAX_FACTS];
-    for i in 0..MAX_FACTS {
-        marks[i] = unmet_at(reader, i, state.marks[i]);
-    }
-    State { marks }
 }
 
 /// Whether the literal of this mark, if there is one, is true of the fact. Only a named fact is asked for.

@@ -1,33 +1,25 @@
 -- What the check of a list answers, from its verdict and the world that comes with it.
-use Rattle.std.proofs.Common.{◌≡◌, ◌≤◌, List, length, None, sym, ap, ◌∙◌, subst, arith}
-use Rattle.facts.specs.declared.job.Job.{Job}
+use Rattle.std.proofs.lemmas.List.{length-map}
+use Rattle.std.proofs.Common.{◌≡◌, ◌≤◌, length, None, Ok, Err, sym, subst, arith}
 use Rattle.facts.specs.declared.world.World.{World}
-use Rattle.facts.specs.Models.{seen}
+use Rattle.facts.specs.Models.{job_of, seen}
 use Rattle.facts.specs.Words.{Exactly}
-use Rattle.lists.specs.declared.failure.Verdict.{Verdict}
-use Rattle.lists.specs.declared.failure.Verdict.TheVariants.{Fine, JobFails, GoalFails}
 use Rattle.lists.specs.declared.list.JobList.{JobList}
-use Rattle.lists.specs.Lists.{jobs_of}
-use Rattle.lists.specs.Failures.{judged, failure_of}
+use Rattle.lists.specs.Failures.{Verdict, failure_of}
 use Rattle.lists.specs.Models.{Listed, list_of, verdict_on, GoodList, SaysOf, Shown}
 use Rattle.lists.proofs.Places.{Fits, fits_parts}
 use Rattle.lists.proofs.Verdicts.{Comes, Known, known_fact, says_so, exactly_good}
 
 comes : (l : Listed) (v : Verdict) (w u : World) → Shown l v w u → Comes l.opening v (seen u)
-comes l Fine w u s = tt
-comes l (JobFails k i x) w u s = s.1
-comes l (GoalFails i x) w u s = s.1
+comes l (Ok v) w u s = tt
+comes l (Err e) w u s = s.1
 
 module _ (l : JobList) where
   inside : Fits (list_of l).facts (list_of l).opening (list_of l).goal (list_of l).jobs
   inside = fits_parts l.count (list_of l).opening (list_of l).goal (list_of l).jobs l.inside
 
   short : length (list_of l).jobs ≤ 64
-  short = omega (arith, l.counted)
-
-  -- the verdict on the jobs that the list answers
-  pub asked : (v : Verdict) (jobs : List Job) → jobs_of jobs ≡ (list_of l).jobs → v ≡ judged 1 (list_of l).opening (jobs_of jobs) (list_of l).goal → v ≡ verdict_on (list_of l)
-  asked v jobs e h = h ∙ ap (λ L. judged 1 (list_of l).opening L (list_of l).goal) e
+  short = omega (arith, length-map l.jobs.items job_of, l.short)
 
   pub known_by : (v : Verdict) → v ≡ verdict_on (list_of l) → Known (list_of l).facts v
   known_by v e = subst (Known (list_of l).facts) (sym e) (known_fact (list_of l).facts (list_of l).opening (list_of l).goal (list_of l).jobs inside short)

@@ -1,7 +1,6 @@
 -- The example world: it is one, it is the only one, and the state is not met there.
-use Rattle.std.proofs.Common.{◌≡◌, ℕ, ◌<◌, ◌≤◌, Bool, true, false, not, ◌&&◌, eqb, ◌⊎◌, List, length, get_or, take, Some, sym, refl, ap, ◌∙◌, inl, inr, ⊎_elim, arith}
-use Rattle.std.proofs.lemmas.List.{length-take-le, get_or-take, get_or_past}
-use Rattle.std.proofs.lemmas.Bool.{eq-eqb, ne_eqb, cases_order, cases_eq, cases_lt}
+use Rattle.std.proofs.Common.{◌≡◌, ℕ, ◌<◌, Bool, true, false, not, ◌&&◌, eqb, ◌⊎◌, List, Some, sym, refl, ap, ◌∙◌, inl, inr, arith}
+use Rattle.std.proofs.lemmas.Bool.{eq-eqb, ne_eqb, cases_order, cases_eq}
 use Rattle.facts.specs.declared.mark.Mark.{Mark}
 use Rattle.facts.specs.declared.mark.Mark.TheVariants.{Unnamed}
 use Rattle.facts.specs.States.{State, mark, named, sign, Has, Named, Within, missing}
@@ -94,21 +93,3 @@ module _ (n : ℕ) (O : State) (L : List Job) (Q : State) (i : ℕ) (x : Bool) (
         only = λ v e. (λ d k. same_at n O L Q v (example O i x) e is_example k d);
         fails = λ m. not_same lacks.0 (sym (fails_example lacks.0 lacks.1 lacks.2) ∙ m i lacks.0 lacks.1);
       }
-
--- a row that has the example's facts below n
-pub shown_example : (O : State) (facts : List Bool) (m n i : ℕ) (x : Bool) → m ≡ n → Within n O → i < n → n ≤ length facts → ((k : ℕ) → k < n → get_or facts k false ≡ example O i x k) → (λ (k : ℕ). get_or (take m facts) k false) ≡ example O i x
-shown_example O facts m n i x e small below fits h = λ d k. at k d
-  where
-    past : (k : ℕ) → n ≤ k → example O i x k ≡ false
-    past k l =
-        let clear : Named O k → ⊥ = λ o. let less : k < n = small k o in omega arith in
-        set_other (mark O k) (eqb k i) x (not_named (mark O k) clear) (ne_eqb k i (λ z. omega arith))
-
-    at : (k : ℕ) → get_or (take m facts) k false ≡ example O i x k
-    at k =
-        ⊎_elim
-        (λ l. get_or-take m facts k false (omega arith) ∙ h k l)
-        (λ l.
-        let f : length (take m facts) ≡ m = length-take-le m facts (omega arith) in
-        get_or_past (take m facts) k false (omega arith) ∙ sym (past k l))
-        (cases_lt k n)

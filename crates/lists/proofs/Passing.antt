@@ -1,15 +1,15 @@
 -- The check of a list, in terms of states: what it passes, and where it stops.
-use Rattle.std.proofs.Common.{◌≡◌, ℕ, ◌+◌, Bool, true, false, List, [], ◌∷◌, ◌++◌, length, Some, None, Option, sym, refl, ap, ◌∙◌, arith}
+use Rattle.std.proofs.Common.{◌≡◌, ℕ, ◌+◌, Bool, true, false, List, [], ◌∷◌, ◌++◌, length, Some, None, Ok, Err, Option, sym, refl, ap, ◌∙◌, arith}
 use Rattle.facts.specs.declared.mark.Mark.TheVariants.{Unnamed}
 use Rattle.facts.specs.States.{State, mark, named, Has, Covers, overridden, missing}
 use Rattle.facts.specs.Worlds.{World, Job, Meets, carried}
 use Rattle.facts.specs.Words.{Empty, Lowest}
 use Rattle.facts.proofs.Marks.{mark_over, mark_missing, missing_none, over_unnamed, over_sets, set_unnamed}
 use Rattle.facts.proofs.Tests.{lowest_is}
-use Rattle.lists.specs.declared.failure.Verdict.{Verdict}
-use Rattle.lists.specs.declared.failure.Verdict.TheVariants.{Fine, JobFails, GoalFails}
+use Rattle.lists.specs.declared.failure.Failure.{Failure}
+use Rattle.lists.specs.declared.failure.Failure.TheVariants as failure
 use Rattle.lists.specs.Lists.{ran, Ready, Works}
-use Rattle.lists.specs.Failures.{opposite, lacking, at_goal, at_job, judged}
+use Rattle.lists.specs.Failures.{Verdict, opposite, lacking, lack, first_of, judged}
 
 -- each precondition is covered in turn, and the goal at the end
 abbrev pub Passes : State → List Job → State → Type 0
@@ -40,27 +40,34 @@ pub record JobLacks (n : ℕ) (P : State) (L : List Job) (k i : ℕ) (x : Bool) 
   pub low : Lowest (missing (after P earlier) job.precondition) (Some i)
   pub turned : x ≡ opposite (mark job.precondition i)
 
+-- what fails, of a list whose first job is job n
+abbrev pub Lacks : ℕ → State → List Job → State → Failure → ℕ → Bool → Type 0
+Lacks n P L G (failure.Job k) i x = JobLacks n P L k i x
+Lacks n P L G failure.Goal i x = Passes P L [] × Lowest (missing (after P L) G) (Some i) × (x ≡ opposite (mark G i))
+
 -- what a verdict says of the states
 abbrev pub Tells : ℕ → State → List Job → State → Verdict → Type 0
-Tells n P L G Fine = Passes P L G
-Tells n P L G (JobFails k i x) = JobLacks n P L k i x
-Tells n P L G (GoalFails i x) = Passes P L [] × Lowest (missing (after P L) G) (Some i) × (x ≡ opposite (mark G i))
+Tells n P L G (Ok u) = Passes P L G
+Tells n P L G (Err e) = Lacks n P L G e.failure e.fact e.holds
 
 covers_none : (P : State) → Covers P []
 covers_none P i true e = let z : ◌≡◌ {A = ℕ} 0 1 = cc in absurd (omega arith)
 covers_none P i false e = let z : ◌≡◌ {A = ℕ} 0 1 = cc in absurd (omega arith)
 
-tells_goal : (n : ℕ) (P G : State) (o : Option ℕ) → Lowest (missing P G) o → Tells n P [] G (at_goal G o)
+tells_goal : (n : ℕ) (P G : State) (o : Option ℕ) → Lowest (missing P G) o → Tells n P [] G (lack failure.Goal G o)
 tells_goal n P G None l = all_covered P G l
 tells_goal n P G (Some i) l = (covers_none P, l, refl)
 
-tells_later : (n : ℕ) (P : State) (j : Job) (L : List Job) (G : State) (v : Verdict) → Covers P j.precondition → Tells (n + 1) (overridden P j.effect) L G v → Tells n P (j ∷ L) G v
-tells_later n P j L G Fine c t = (c, t)
-tells_later n P j L G (JobFails k i x) c t =
+lacks_later : (n : ℕ) (P : State) (j : Job) (L : List Job) (G : State) (f : Failure) (i : ℕ) (x : Bool) → Covers P j.precondition → Lacks (n + 1) (overridden P j.effect) L G f i x → Lacks n P (j ∷ L) G f i x
+lacks_later n P j L G (failure.Job k) i x c t =
     record { earlier = j ∷ t.earlier; job = t.job; rest = t.rest; split = ap (λ l. j ∷ l) t.split; place = omega (arith, t.place); passes = (c, t.passes); low = t.low; turned = t.turned }
-tells_later n P j L G (GoalFails i x) c t = ((c, t.0), t.1, t.2)
+lacks_later n P j L G failure.Goal i x c t = ((c, t.0), t.1, t.2)
 
-tells_job : (n : ℕ) (P : State) (j : Job) (L : List Job) (G : State) (o : Option ℕ) (v : Verdict) → Lowest (missing P j.precondition) o → Tells (n + 1) (overridden P j.effect) L G v → Tells n P (j ∷ L) G (at_job n j.precondition o v)
+tells_later : (n : ℕ) (P : State) (j : Job) (L : List Job) (G : State) (v : Verdict) → Covers P j.precondition → Tells (n + 1) (overridden P j.effect) L G v → Tells n P (j ∷ L) G v
+tells_later n P j L G (Ok u) c t = (c, t)
+tells_later n P j L G (Err e) c t = lacks_later n P j L G e.failure e.fact e.holds c t
+
+tells_job : (n : ℕ) (P : State) (j : Job) (L : List Job) (G : State) (o : Option ℕ) (v : Verdict) → Lowest (missing P j.precondition) o → Tells (n + 1) (overridden P j.effect) L G v → Tells n P (j ∷ L) G (first_of (lack (failure.Job n) j.precondition o) v)
 tells_job n P j L G None v l t = tells_later n P j L G v (all_covered P j.precondition l) t
 tells_job n P j L G (Some i) v l t = record { earlier = []; job = j; rest = L; split = refl; place = omega arith; passes = covers_none P; low = l; turned = refl }
 

@@ -1,13 +1,12 @@
 -- Where a list fails first, and the world to show for it.
-use Rattle.std.specs.Prelude.{◌≡◌, ℕ, ◌+◌, ◌<◌, Bool, true, false, not, ◌&&◌, List, [], ◌∷◌, ◌++◌, length, Some, None, Option, ◌==◌, ◌≢◌}
+use Rattle.std.specs.Prelude.{◌≡◌, ℕ, ◌+◌, ◌<◌, Bool, true, false, not, ◌&&◌, List, [], ◌∷◌, ◌++◌, length, Some, None, Ok, Err, Option, Result, ◌==◌, ◌≢◌}
 use Rattle.facts.specs.declared.mark.Mark.{Mark}
 use Rattle.facts.specs.declared.mark.Mark.TheVariants.{Unnamed, Holds, Fails}
 use Rattle.facts.specs.States.{State, mark, Has, Named, overridden, missing, lowest}
 use Rattle.facts.specs.Worlds.{World, Job, Sized, Meets, carried}
 use Rattle.lists.specs.declared.failure.Failure.{Failure}
 use Rattle.lists.specs.declared.failure.Failure.TheVariants as failure
-use Rattle.lists.specs.declared.failure.Verdict.{Verdict}
-use Rattle.lists.specs.declared.failure.Verdict.TheVariants.{Fine, JobFails, GoalFails}
+use Rattle.lists.specs.declared.failure.Lack.{Lack}
 use Rattle.lists.specs.Lists.{ran, Ready, Good}
 
 -- what its fact is where a literal fails
@@ -20,23 +19,29 @@ opposite Fails = true
 abbrev pub lacking : State → State → Option ℕ
 lacking P Q = lowest (missing P Q)
 
-abbrev pub at_goal : State → Option ℕ → Verdict
-at_goal G None = Fine
-at_goal G (Some i) = GoalFails i (opposite (mark G i))
+-- what a check of a list finds: nothing, or what fails first, the fact of its literal that fails, and what that fact is in
+-- the world to show
+abbrev pub Verdict : Type 0
+Verdict = Result (Unit {0}) Lack
 
-abbrev pub at_job : ℕ → State → Option ℕ → Verdict → Verdict
-at_job k Q None v = v
-at_job k Q (Some i) v = JobFails k i (opposite (mark Q i))
+-- the state Q, wanted for f, where i is the lowest fact of a literal that is lacking, if one is
+abbrev pub lack : Failure → State → Option ℕ → Verdict
+lack f Q None = Ok tt
+lack f Q (Some i) = Err (record { failure = f; fact = i; holds = opposite (mark Q i) })
+
+-- the first that fails of the two
+abbrev pub first_of : Verdict → Verdict → Verdict
+first_of (Ok u) v = v
+first_of (Err e) v = Err e
 
 -- the jobs L, the first of which is job k, and the goal G checked from the state P, which the effects override in turn
 abbrev pub judged : ℕ → State → List Job → State → Verdict
-judged k P [] G = at_goal G (lacking P G)
-judged k P (j ∷ L) G = at_job k j.precondition (lacking P j.precondition) (judged (k + 1) (overridden P j.effect) L G)
+judged k P [] G = lack failure.Goal G (lacking P G)
+judged k P (j ∷ L) G = first_of (lack (failure.Job k) j.precondition (lacking P j.precondition)) (judged (k + 1) (overridden P j.effect) L G)
 
 abbrev pub failure_of : Verdict → Option Failure
-failure_of Fine = None
-failure_of (JobFails k i x) = Some (failure.Job k)
-failure_of (GoalFails i x) = Some failure.Goal
+failure_of (Ok u) = None
+failure_of (Err e) = Some e.failure
 
 abbrev pub failure_number : Failure → ℕ
 failure_number (failure.Job k) = 30

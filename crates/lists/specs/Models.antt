@@ -1,17 +1,15 @@
 -- What stands in the code's lists, and what each call on one gives.
-use Rattle.std.specs.Prelude.{◌≡◌, ℕ, cond, ◌&&◌, List, [], ◌∷◌, ◌++◌, length, take, Ok, Err, Option, Result, nat_le, nat_lt}
+use Rattle.std.specs.Prelude.{◌≡◌, ℕ, cond, ◌&&◌, List, [], ◌∷◌, ◌++◌, length, Ok, Err, Option, Result, nat_le, nat_lt}
 use Rattle.facts.specs.declared.world.World as code
 use Rattle.facts.specs.States.{State, within}
 use Rattle.facts.specs.Worlds.{World, Job, job_within}
 use Rattle.facts.specs.Models.{row, size_of, seen}
 use Rattle.lists.specs.declared.failure.Failure.{Failure}
-use Rattle.lists.specs.declared.failure.Verdict.{Verdict}
-use Rattle.lists.specs.declared.failure.Verdict.TheVariants.{Fine, JobFails, GoalFails}
 use Rattle.lists.specs.declared.list.JobList.{JobList}
 use Rattle.lists.specs.declared.list.ListFault.{ListFault}
 use Rattle.lists.specs.declared.list.ListFault.TheVariants.{TooManyFacts, FactPast, TooManyJobs}
 use Rattle.lists.specs.Lists.{jobs_of, Good}
-use Rattle.lists.specs.Failures.{judged, example, Says}
+use Rattle.lists.specs.Failures.{Verdict, judged, example, Says}
 
 -- a number of facts, an opening, a goal and jobs
 pub record Listed : Type 0 where
@@ -21,7 +19,7 @@ pub record Listed : Type 0 where
   pub jobs : List Job
 
 abbrev pub list_of : JobList → Listed
-list_of l = record { facts = l.count; opening = row l.opening; goal = row l.goal; jobs = jobs_of (take l.len l.jobs) }
+list_of l = record { facts = l.count; opening = row l.opening; goal = row l.goal; jobs = jobs_of l.jobs.items }
 
 -- the list of no jobs: refused with more than 256 facts, then where a state names a fact not below n
 abbrev pub listed : ℕ → State → State → Result Listed ListFault
@@ -47,6 +45,5 @@ SaysOf l w r = Says l.facts l.opening l.jobs l.goal w r
 
 -- the world v after a check of the list that found it as w: the example world, of as many facts, or w itself
 abbrev pub Shown : Listed → Verdict → code.World → code.World → Type 0
-Shown l Fine w v = v ≡ w
-Shown l (JobFails k i x) w v = (size_of v ≡ l.facts) × (seen v ≡ example l.opening i x)
-Shown l (GoalFails i x) w v = (size_of v ≡ l.facts) × (seen v ≡ example l.opening i x)
+Shown l (Ok u) w v = v ≡ w
+Shown l (Err e) w v = (size_of v ≡ l.facts) × (seen v ≡ example l.opening e.fact e.holds)

@@ -1,13 +1,13 @@
 //! The first job of a list that fails, else the goal, and a world in which it does.
-ghost use Rattle.std.specs.Prelude.{◌≡◌, ◌+◌, ◌<◌, ◌≤◌, ◌∷◌, length, None};
-ghost use Rattle.facts.specs.Models.{row, job_of, size_of, seen};
+ghost use Rattle.std.specs.Prelude.{◌≡◌, ◌<◌, None};
+ghost use Rattle.facts.specs.Models.{row, size_of, seen};
 ghost use Rattle.facts.specs.Words.{Exactly};
-ghost use Rattle.lists.specs.Lists.{jobs_of};
-ghost use Rattle.lists.specs.Failures.{opposite, lacking, at_goal, judged, example, failure_of, failure_number};
+ghost use Rattle.lists.specs.Failures.{lacking, lack, example, failure_of, failure_number};
 ghost use Rattle.lists.specs.Models.{list_of, verdict_on, GoodList, SaysOf, Shown};
 
 use crate::list::JobList;
 use facts::{Job, MAX_FACTS, Mark, State, World};
+use std::array;
 
 /// What fails first: a job, by its place from 1, or the goal.
 #[derive(Clone, Copy, PartialEq, Eq, Debug)]
@@ -16,16 +16,17 @@ pub enum Failure {
     Goal,
 }
 
-/// What the check of a list finds: nothing, or what fails first, a job by its place from 1, or the goal. With a
-/// failure come the fact of the literal that fails, and whether it holds in the world to show.
-pub(crate) enum Verdict {
-    Fine,
-    JobFails(usize, usize, bool),
-    GoalFails(usize, bool),
+/// What a list lacks: what fails first, the fact of its literal that fails, and whether that fact holds in the world to
+/// show.
+#[derive(Clone, Copy, PartialEq, Eq, Debug)]
+pub(crate) struct Lack {
+    pub(crate) failure: Failure,
+    pub(crate) fact: usize,
+    pub(crate) holds: bool,
 }
 
 impl Failure {
-    /// The refusal's number.
+    /// The refusal's number. A method and no `From`, since its name says which number is asked for.
     pub fn number(&self) -> u8
         ensures value { result ≡ failure_number self.now }
     {
@@ -44,75 +45,60 @@ pub fn first_failure(list: &JobList, example: &mut World) -> Option<Failure>
     ensures good { Exactly (result ≡ None) (GoodList (list_of list.now)) }
     ensures fails { SaysOf (list_of list.now) (seen example.new) result }
 {
-    match judge(1, &list.opening, list.jobs(), &list.goal) {
-        Verdict::Fine => None,
-        Verdict::JobFails(place, fact, holds) => {
-            *example = shown(list, fact, holds);
-            Some(Failure::Job(place))
-        }
-        Verdict::GoalFails(fact, holds) => {
-            *example = shown(list, fact, holds);
-            Some(Failure::Goal)
+    match judge(list) {
+        Ok(()) => None,
+        Err(lack) => {
+            *example = shown(list, &lack);
+            Some(lack.failure)
         }
     }
 }
 
-/// The check of jobs, the first of which is job `place`, and a goal, from a state.
-#[cycle(judge_judge_job)]
-fn judge(place: usize, state: &State, jobs: &[Job], goal: &State) -> Verdict
-    requires { place + length jobs.now ≤ 65 }
-    ensures value { result ≡ judged place (row state.now) (jobs_of jobs.now) (row goal.now) }
+/// The precondition of each job in turn, and then the goal: the effects before it have to leave a state that covers it.
+#[tactic(auto, using(crate::proofs::Turns::turned))]
+fn judge(list: &JobList) -> Result<(), Lack>
+    ensures value { result ≡ verdict_on (list_of list.now) }
 {
-    match jobs {
-        [] => judge_goal(state, goal),
-        [job, rest @ ..] => judge_job(place, state, job, rest, goal),
+    let mut state = list.opening;
+    // `enumerate` and one more: over a `zip` with the places from 1 the proof did not close.
+    for (before, job) in list.jobs.as_slice().iter().enumerate() {
+        cover(&state, &job.precondition, Failure::Job(before + 1))?;
+        state = state.overridden(&job.effect);
+    }
+    cover(&state, &list.goal, Failure::Goal)
+}
+
+/// The state has to cover what is wanted; else that is what fails.
+fn cover(state: &State, wanted: &State, failure: Failure) -> Result<(), Lack>
+    ensures value { result ≡ lack failure (row wanted.now) (lacking (row state.now) (row wanted.now)) }
+{
+    match state.missing(wanted).lowest() {
+        None => Ok(()),
+        Some(fact) => Err(Lack {
+            failure,
+            fact,
+            holds: wanted.mark(fact) == Mark::Fails,
+        }),
     }
 }
 
-/// The state has to cover the job's precondition; overridden by the effect, it is what the rest is checked from.
-#[cycle(judge_judge_job)]
-fn judge_job(place: usize, state: &State, job: &Job, rest: &[Job], goal: &State) -> Verdict
-    requires { place + 1 + length rest.now ≤ 65 }
-    ensures value { result ≡ judged place (row state.now) (job_of job.now ∷ jobs_of rest.now) (row goal.now) }
-{
-    match state.missing(&job.precondition).lowest() {
-        Some(fact) => Verdict::JobFails(place, fact, turned(job.precondition.mark(fact))),
-        None => judge(place + 1, &state.overridden(&job.effect), rest, goal),
-    }
-}
-
-/// The state after all jobs has to cover the goal.
-fn judge_goal(state: &State, goal: &State) -> Verdict
-    ensures value { result ≡ at_goal (row goal.now) (lacking (row state.now) (row goal.now)) }
-{
-    match state.missing(goal).lowest() {
-        None => Verdict::Fine,
-        Some(fact) => Verdict::GoalFails(fact, turned(goal.mark(fact))),
-    }
-}
-
-/// Whether a fact holds where its literal fails.
-fn turned(m: Mark) -> bool
-    ensures value { result ≡ opposite m }
-{
-    match m {
-        Mark::Fails => true,
-        Mark::Holds | Mark::Unnamed => false,
-    }
-}
-
-/// The world that is as the opening names it, else has `fact` as `holds` says, and no other fact holding.
-fn shown(list: &JobList, fact: usize, holds: bool) -> World
-    requires { fact < (list_of list.now).facts }
+/// The world to show: as the opening names it, else the fact at fault as the lack has it, and no other fact holding.
+// Worlds are changed in the same way; one maker for both would ask of its caller that a closure can be called.
+fn shown(list: &JobList, lack: &Lack) -> World
+    requires { lack.now.fact < (list_of list.now).facts }
     ensures size { size_of result ≡ (list_of list.now).facts }
-    ensures facts { seen result ≡ example (list_of list.now).opening fact holds }
+    ensures facts { seen result ≡ example (list_of list.now).opening lack.now.fact lack.now.holds }
 {
-    let mut facts = [false; MAX_FACTS];
-    for k in 0..list.count {
-        facts[k] = list.opening.mark(k).set(k == fact && holds);
-    }
-    match World::new(&facts[0..list.count]) {
-        Ok(world) => world,
-        Err(_) => unreachable(),
-    }
+    let facts: [bool; MAX_FACTS] = array::from_fn(|fact| holds_there(&list.opening, lack, fact));
+    let Ok(world) = World::new(&facts[..list.count]) else {
+        unreachable()
+    };
+    world
+}
+
+/// Whether the fact holds in the world to show.
+fn holds_there(opening: &State, lack: &Lack, fact: usize) -> bool
+    ensures value { result ≡ example (row opening.now) lack.now.fact lack.now.holds fact }
+{
+    opening.mark(fact).set(fact == lack.fact && lack.holds)
 }

@@ -1,70 +1,41 @@
--- Names byte by byte, and rows found by name.
-use Rattle.std.proofs.Common.{◌≡◌, ℕ, zero, suc, ◌+◌, ◌-◌, ◌<◌, ◌≤◌, Bool, true, false, cond, eqb, List, [], ◌∷◌, map, length, get_or, take, drop, Some, None, Decides, MatchBool, sym, refl, ap, ◌∙◌, arith}
-use Rattle.std.proofs.lemmas.Bool.{and_parts, and_from, and_right, eq-eqb, eqb-true}
-use Rattle.std.proofs.lemmas.Bool.Decides.{same_from_decides}
-use Rattle.std.proofs.lemmas.List.{drop_more, drop_all, take_rest, ext_get_or}
-use Rattle.facts.proofs.Scans.{decides_when}
+-- Names byte by byte, and the code's searches in the words of the definitions.
+use Rattle.std.proofs.Common.{◌≡◌, ℕ, suc, ◌+◌, Bool, not, true, false, cond, ltb, List, [], ◌∷◌, map, length, ◌&&◌, Some, None, Decides, refl, ap, arith, rules}
+use Rattle.std.specs.Str.{bytes_eq}
+use Rattle.std.specs.List.{list_all, position, position_or_len}
+use Rattle.std.proofs.lemmas.Bool.Decides.{nat_tests, same_from_decides}
+use Rattle.std.proofs.lemmas.Slice.Eq.{compares_Decides, bytes_eq-Decides}
 use Rattle.text.specs.Lists.{each}
-use Rattle.names.specs.Literals.{sign_of, unsigned, name_of}
-use Rattle.names.specs.Names.{in_name, same_name, found_from, AllInName, Alike}
+use Rattle.names.specs.Names.{same_name, found_from, found_at}
 
-each_decides : (s : List ℕ) → Decides (each in_name s) (AllInName s)
-each_decides s = (at s, from s)
-  where
-    at : (s : List ℕ) → each in_name s ≡ true → AllInName s
-    at [] h i l = absurd (omega arith)
-    at (b ∷ s) h zero l = (and_parts (in_name b) (each in_name s) h).0
-    at (b ∷ s) h (suc i) l = at s (and_parts (in_name b) (each in_name s) h).1 i (omega arith)
-
-    from : (s : List ℕ) → AllInName s → each in_name s ≡ true
-    from [] h = refl
-    from (b ∷ s) h = and_from (in_name b) (each in_name s) (h 0 (omega arith)) (from s (λ i l. h (suc i) (omega arith)))
-
-pub each_is : (s : List ℕ) (r : Bool) → MatchBool r (AllInName s) (AllInName s → ⊥) → r ≡ each in_name s
-each_is s r h = same_from_decides r (each in_name s) (decides_when r h) (each_decides s)
-
-pub same_lengths : (xs ys : List ℕ) → (length xs ≡ length ys → ⊥) → same_name xs ys ≡ false
-same_lengths [] [] h = absurd (h refl)
-same_lengths [] (y ∷ ys) h = refl
-same_lengths (x ∷ xs) [] h = refl
-same_lengths (x ∷ xs) (y ∷ ys) h = and_right (eqb x y) _ (same_lengths xs ys (λ e. h (ap suc e)))
+pub all_each : {X : Type 0} (p : X → Bool) (xs : List X) → list_all p xs ≡ each p xs
+all_each p [] = refl
+all_each p (x ∷ xs) = ap (λ r. p x && r) (all_each p xs)
 
 -- two names are the same exactly when they have the same bytes
+same_decides : (xs ys : List ℕ) → Decides (same_name xs ys) (xs ≡ ys)
+same_decides xs ys = compares_Decides same_name (search rules) xs ys
+
 pub same_true : (xs ys : List ℕ) → same_name xs ys ≡ true → xs ≡ ys
-same_true [] [] h = refl
-same_true [] (y ∷ ys) h = let z : ◌≡◌ {A = ℕ} 0 1 = cc in absurd (omega arith)
-same_true (x ∷ xs) [] h = let z : ◌≡◌ {A = ℕ} 0 1 = cc in absurd (omega arith)
-same_true (x ∷ xs) (y ∷ ys) h =
-    let p = and_parts (eqb x y) (same_name xs ys) h in
-    λ d. eqb-true x y p.0 d ∷ same_true xs ys p.1 d
+same_true xs ys h = (same_decides xs ys).0 h
 
 pub true_same : (xs : List ℕ) → same_name xs xs ≡ true
-true_same [] = refl
-true_same (x ∷ xs) = and_from (eqb x x) (same_name xs xs) (eq-eqb x x refl) (true_same xs)
+true_same xs = (same_decides xs xs).1 refl
 
-pub same_decides : (xs ys : List ℕ) → Decides (same_name xs ys) (xs ≡ ys)
-same_decides xs ys = (same_true xs ys, λ e. ap (same_name xs) (sym e) ∙ true_same xs)
+-- `==` on slices compares as names are compared
+pub slices_same : (xs ys : List ℕ) → bytes_eq xs ys ≡ same_name xs ys
+slices_same xs ys = same_from_decides (bytes_eq xs ys) (same_name xs ys) (bytes_eq-Decides xs ys) (same_decides xs ys)
 
-pub same_is : (xs ys : List ℕ) (r : Bool) → length xs ≡ length ys → MatchBool r (Alike xs ys) (Alike xs ys → ⊥) → r ≡ same_name xs ys
-same_is xs ys r l h =
-    let d = decides_when r h in
-    same_from_decides r (same_name xs ys) (λ e. ext_get_or 0 xs ys l (d.0 e), λ e. d.1 (λ i m. ap (λ s. get_or s i 0) e)) (same_decides xs ys)
+-- the library's search, from which a list of names is counted as from j; m is the place that it finds
+found_by_position : {X : Type 0} (title : X → List ℕ) (n : List ℕ) (j : ℕ) (xs : List X) (m : ℕ) → let p = position_or_len (λ x. bytes_eq (title x) n) xs in m ≡ j + p → cond (ltb p (length xs)) (Some m) None ≡ found_from j n (map title xs)
+found_by_position title n j [] m e = refl
+found_by_position title n j (x ∷ xs) m e = go (bytes_eq (title x) n) (slices_same (title x) n) e (found_by_position title n (j + 1) xs m)
+  where
+    p : ℕ
+    p = position_or_len (λ x. bytes_eq (title x) n) xs
 
--- a search for a name, row by row
-module _ {X : Type 0} (title : X → List ℕ) (n : List ℕ) (xs : List X) (i : ℕ) (x : X) (h : i < length xs) (is : x ≡ get_or xs i x) where
-  here : found_from i n (map title (drop i xs)) ≡ cond (same_name (title x) n) (Some i) (found_from (i + 1) n (map title (drop (i + 1) xs)))
-  here = ap (λ l. found_from i n (map title l)) (drop_more xs i x h) ∙ ap (λ y. cond (same_name (title y) n) (Some i) (found_from (i + 1) n (map title (drop (i + 1) xs)))) (sym is)
+    go : (t : Bool) → t ≡ same_name (title x) n → m ≡ j + cond (not t) (1 + p) 0 → (m ≡ j + 1 + p → cond (ltb p (length xs)) (Some m) None ≡ found_from (j + 1) n (map title xs)) → cond (ltb (cond (not t) (1 + p) 0) (suc (length xs))) (Some m) None ≡ cond (same_name (title x) n) (Some j) (found_from (j + 1) n (map title xs))
+    go true s e h = rw (← s) (grind (arith, nat_tests))
+    go false s e h = let k = h (omega arith) in rw (← s) (grind (arith, nat_tests))
 
-  pub found_here : (m : List ℕ) → m ≡ title x → true ≡ same_name m n → found_from i n (map title (drop i xs)) ≡ Some i
-  found_here m e t = here ∙ ap (λ b. cond b (Some i) (found_from (i + 1) n (map title (drop (i + 1) xs)))) (sym (t ∙ ap (λ y. same_name y n) e))
-
-  pub found_later : (m : List ℕ) → m ≡ title x → false ≡ same_name m n → found_from i n (map title (drop i xs)) ≡ found_from (i + 1) n (map title (drop (i + 1) xs))
-  found_later m e t = here ∙ ap (λ b. cond b (Some i) (found_from (i + 1) n (map title (drop (i + 1) xs)))) (sym (t ∙ ap (λ y. same_name y n) e))
-
-pub found_none : {X : Type 0} (title : X → List ℕ) (n : List ℕ) (xs : List X) (i : ℕ) → length xs ≤ i → found_from i n (map title (drop i xs)) ≡ None
-found_none title n xs i h = ap (λ l. found_from i n (map title l)) (drop_all i xs h)
-
--- a literal that has a sign, without it
-pub sign_off : (l : List ℕ) (x : Bool) → Some x ≡ sign_of l → take (length l - 1) (drop 1 l) ≡ name_of l
-sign_off [] x e = let z : ◌≡◌ {A = ℕ} 0 1 = cc in absurd (omega arith)
-sign_off (b ∷ s) x e = take_rest (b ∷ s) 1 ∙ ap (λ o. unsigned o (b ∷ s)) e
+pub position_found : {X : Type 0} (title : X → List ℕ) (n : List ℕ) (xs : List X) → position (λ x. bytes_eq (title x) n) xs ≡ found_at n (map title xs)
+position_found title n xs = found_by_position title n 0 xs _ (omega arith)

@@ -34,7 +34,7 @@ within_literals facts at (l ∷ ls) s t w e = go (λ u v h. within_literals fact
   where
     go : ((u : State) → Within (length facts) u → literals facts at ls u ≡ Ok t → Within (length facts) t) → (r : Result State TextFault) → literal facts at l s ≡ r → then r (λ u. literals facts at ls u) ≡ Ok t → Within (length facts) t
     go next (Ok u) h k = next u (within_literal facts at l s u w h) k
-    go next (Err x) h k = let z : ◌≡◌ {A = ℕ} 0 1 = cc in absurd (omega arith)
+    go next (Err x) h k = absurd (cc)
 
 within_nothing : (n : ℕ) → Within n nothing
 within_nothing n i h = absurd (unnamed_not (mark nothing i) (mark_nothing i) h)

@@ -27,7 +27,7 @@ pub record Found (j : ℕ) (n : List ℕ) (xs : List (List ℕ)) (i : ℕ) : Typ
   pub earlier : (k : ℕ) → k < place → get_or xs k [] ≡ n → ⊥
 
 pub found_is : (j : ℕ) (n : List ℕ) (xs : List (List ℕ)) (i : ℕ) → found_from j n xs ≡ Some i → Found j n xs i
-found_is j n [] i e = let z : ◌≡◌ {A = ℕ} 0 1 = cc in absurd (omega arith)
+found_is j n [] i e = absurd (cc)
 found_is j n (x ∷ xs) i e = go (λ h. found_is (j + 1) n xs i h) (same_name x n) refl e
   where
     before : {p : ℕ} → same_name x n ≡ false → ((k : ℕ) → k < p → get_or xs k [] ≡ n → ⊥) → (k : ℕ) → k < suc p → get_or (x ∷ xs) k [] ≡ n → ⊥
@@ -38,12 +38,12 @@ found_is j n (x ∷ xs) i e = go (λ h. found_is (j + 1) n xs i h) (same_name x 
     go next true s h = let same : j ≡ i = cc in record { place = 0; counted = omega arith; below = omega arith; is = same_true x n s; earlier = λ k l. absurd (omega arith) }
     go next false s h = let f = next h in record { place = suc f.place; counted = omega (arith, f.counted); below = omega (arith, f.below); is = f.is; earlier = before s f.earlier }
 
-found_none : (j : ℕ) (n : List ℕ) (xs : List (List ℕ)) → found_from j n xs ≡ None → (i : ℕ) → i < length xs → get_or xs i [] ≡ n → ⊥
+pub found_none : (j : ℕ) (n : List ℕ) (xs : List (List ℕ)) → found_from j n xs ≡ None → (i : ℕ) → i < length xs → get_or xs i [] ≡ n → ⊥
 found_none j n [] e i l h = absurd (omega arith)
 found_none j n (x ∷ xs) e i l h = go (λ f k m. found_none (j + 1) n xs f k m) (same_name x n) refl e i l h
   where
     go : (found_from (j + 1) n xs ≡ None → (k : ℕ) → k < length xs → get_or xs k [] ≡ n → ⊥) → (t : Bool) → same_name x n ≡ t → cond t (Some j) (found_from (j + 1) n xs) ≡ None → (i : ℕ) → i < length (x ∷ xs) → get_or (x ∷ xs) i [] ≡ n → ⊥
-    go next true s f i l h = let z : ◌≡◌ {A = ℕ} 0 1 = cc in absurd (omega arith)
+    go next true s f i l h = absurd (cc)
     go next false s f zero l h = both_ways (same_name x n) s (ap (same_name x) (sym h) ∙ true_same x)
     go next false s f (suc i) l h = next f i (omega arith) h
 
@@ -59,7 +59,7 @@ first_found xs n = go (found_at n xs) refl
         (omega (arith, f.below), ap (λ k. get_or xs k []) (sym same) ∙ f.is, λ k l. f.earlier k (omega arith))
 
 pub sign_spelt : (l : List ℕ) (b : Bool) → sign_of l ≡ Some b → l ≡ sign_byte b ∷ name_of l
-sign_spelt [] b e = let z : ◌≡◌ {A = ℕ} 0 1 = cc in absurd (omega arith)
+sign_spelt [] b e = absurd (cc)
 sign_spelt (c ∷ s) b e = go (eqb c 43) refl (eqb c 45) refl e
   where
     go : (x : Bool) → eqb c 43 ≡ x → (y : Bool) → eqb c 45 ≡ y → cond x (Some true) (cond y (Some false) None) ≡ Some b → c ∷ s ≡ sign_byte b ∷ unsigned (sign_of (c ∷ s)) (c ∷ s)
@@ -69,7 +69,7 @@ sign_spelt (c ∷ s) b e = go (eqb c 43) refl (eqb c 45) refl e
     go false p true q h =
         let same : false ≡ b = cc in
         (λ d. eqb-true c 45 q d ∷ s) ∙ ap (λ x. sign_byte x ∷ s) same ∙ ap (λ o. sign_byte b ∷ unsigned o (c ∷ s)) (sym e)
-    go false p false q h = let z : ◌≡◌ {A = ℕ} 0 1 = cc in absurd (omega arith)
+    go false p false q h = absurd (cc)
 
 unnamed_false : (m : Mark) → named m ≡ false → m ≡ Unnamed
 unnamed_false m h = grind arith
@@ -78,8 +78,8 @@ pub added_is : (s t : State) (i : ℕ) (b : Bool) → added s i b ≡ Ok t → (
 added_is s t i b e = go (leb 256 i) (named (mark s i)) refl e
   where
     go : (x y : Bool) → named (mark s i) ≡ y → cond x (Err FactPast) (cond y (Err FactNamed) (Ok (set s i (sign b)))) ≡ Ok t → (mark s i ≡ Unnamed) × (t ≡ set s i (sign b))
-    go true y n h = let z : ◌≡◌ {A = ℕ} 0 1 = cc in absurd (omega arith)
-    go false true n h = let z : ◌≡◌ {A = ℕ} 0 1 = cc in absurd (omega arith)
+    go true y n h = absurd (cc)
+    go false true n h = absurd (cc)
     go false false n h = let same : set s i (sign b) ≡ t = cc in (unnamed_false (mark s i) n, sym same)
 
 -- a literal that was read
@@ -108,18 +108,18 @@ literal_read facts at l s t e = named_so (not (good_name (name_of l))) e
           unnamed = done.0;
           state = sym same ∙ done.1;
         }
-    put b i g f (Err x) a k = let z : ◌≡◌ {A = ℕ} 0 1 = cc in absurd (omega arith)
+    put b i g f (Err x) a k = absurd (cc)
 
     stored : (b : Bool) → sign_of l ≡ Some b → (o : Option ℕ) → found_at (name_of l) facts ≡ o → or_else o (UnknownName at) (λ i. then_in (not_added at) (added s i b) (λ u. Ok u)) ≡ Ok t → One facts l s t
-    stored b g None f h = let z : ◌≡◌ {A = ℕ} 0 1 = cc in absurd (omega arith)
+    stored b g None f h = absurd (cc)
     stored b g (Some i) f h = put b i g f (added s i b) refl h
 
     signed : (o : Option Bool) → sign_of l ≡ o → or_else o (NoSign at) (λ b. or_else (found_at (name_of l) facts) (UnknownName at) (λ i. then_in (not_added at) (added s i b) (λ u. Ok u))) ≡ Ok t → One facts l s t
-    signed None g h = let z : ◌≡◌ {A = ℕ} 0 1 = cc in absurd (omega arith)
+    signed None g h = absurd (cc)
     signed (Some b) g h = stored b g (found_at (name_of l) facts) refl h
 
     named_so : (x : Bool) → then (unless x (BadName at) (λ _. Ok (name_of l))) (λ n. or_else (sign_of l) (NoSign at) (λ b. or_else (found_at n facts) (UnknownName at) (λ i. then_in (not_added at) (added s i b) (λ u. Ok u)))) ≡ Ok t → One facts l s t
-    named_so true h = let z : ◌≡◌ {A = ℕ} 0 1 = cc in absurd (omega arith)
+    named_so true h = absurd (cc)
     named_so false h = signed (sign_of l) refl h
 
 -- literals that were read
@@ -142,7 +142,7 @@ literals_read facts at (l ∷ ls) s t e = go (λ u h. literals_read facts at ls 
   where
     go : ((u : State) → literals facts at ls u ≡ Ok t → SomeRead facts ls u t) → (r : Result State TextFault) → literal facts at l s ≡ r → then r (λ u. literals facts at ls u) ≡ Ok t → SomeRead facts (l ∷ ls) s t
     go next (Ok u) h k = one_more facts l ls s u t (literal_read facts at l s u h) (next u k)
-    go next (Err x) h k = let z : ◌≡◌ {A = ℕ} 0 1 = cc in absurd (omega arith)
+    go next (Err x) h k = absurd (cc)
 
 pub field_read : (facts : List (List ℕ)) (at : Place) (f : List ℕ) (t : State) → state_field facts at f ≡ Ok t → Denotes facts f t
 field_read facts at f t e = go (same_name f (46 ∷ [])) refl e

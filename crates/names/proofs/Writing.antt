@@ -1,5 +1,5 @@
 -- What spells a state over well formed, distinct names is read as it.
-use Rattle.std.proofs.Common.{◌≡◌, ℕ, zero, suc, ◌+◌, ◌<◌, ◌≤◌, Bool, true, false, cond, not, List, [], ◌∷◌, ◌++◌, map, length, get_or, set, is_some, Some, Ok, Result, sym, refl, ap, ◌∙◌, inl, inr, arith}
+use Rattle.std.proofs.Common.{◌≡◌, ℕ, zero, suc, ◌+◌, ◌<◌, ◌≤◌, Bool, true, false, cond, not, List, [], ◌∷◌, ◌++◌, map, length, get_or, set, is_some, Some, None, Ok, Option, Result, sym, refl, ap, ◌∙◌, inl, inr, arith}
 use Rattle.std.specs.List.{AllByRecursion}
 use Rattle.std.proofs.lemmas.Bool.Decides.{nat_tests}
 use Rattle.std.proofs.lemmas.Bool.{and_parts, and_from, lt-leb, not-true, both_ways}
@@ -17,26 +17,25 @@ use Rattle.text.proofs.Joins.{Free, parts_join}
 use Rattle.names.specs.Names.{in_name, good_name, same_name, found_from, found_at, distinct_from, proper_names}
 use Rattle.names.specs.Literals.{not_added, literal, literals, parted, state_field}
 use Rattle.names.specs.Spelling.{Literal, sign_byte, spell, Adds, Denotes, SpellsExactly}
-use Rattle.names.proofs.Reading.{field_read}
-use Rattle.names.proofs.Bytes.{true_same}
+use Rattle.names.proofs.Reading.{found_none, field_read}
+use Rattle.names.proofs.Bytes.{same_true, true_same}
 use Rattle.names.proofs.Plain.{plain_byte, good_bytes, good_plain}
 
 name_spaceless : (b : ℕ) → in_name b ≡ true → b ≡ 32 → ⊥
 name_spaceless b h e = grind (arith, nat_tests)
 
 -- a name that is not found is none of the list
-none_same : (j : ℕ) (m : List ℕ) (xs : List (List ℕ)) → is_some (found_from j m xs) ≡ false → (k : ℕ) → k < length xs → same_name (get_or xs k []) m ≡ false
-none_same j m [] h k l = absurd (omega arith)
-none_same j m (x ∷ xs) h k l = go (λ e i o. none_same (j + 1) m xs e i o) (same_name x m) refl h k l
+none_same : (m : List ℕ) (xs : List (List ℕ)) → is_some (found_at m xs) ≡ false → (k : ℕ) → k < length xs → same_name (get_or xs k []) m ≡ false
+none_same m xs h k l = go (found_at m xs) refl (same_name (get_or xs k []) m) refl h
   where
-    go : (is_some (found_from (j + 1) m xs) ≡ false → (i : ℕ) → i < length xs → same_name (get_or xs i []) m ≡ false) → (t : Bool) → same_name x m ≡ t → is_some (cond t (Some j) (found_from (j + 1) m xs)) ≡ false → (i : ℕ) → i < length (x ∷ xs) → same_name (get_or (x ∷ xs) i []) m ≡ false
-    go next true s e i o = absurd (both_ways true e refl)
-    go next false s e zero o = s
-    go next false s e (suc i) o = next e i (omega arith)
+    go : (o : Option ℕ) → found_at m xs ≡ o → (t : Bool) → same_name (get_or xs k []) m ≡ t → is_some o ≡ false → t ≡ false
+    go None e true s h = absurd (found_none 0 m xs e k l (same_true (get_or xs k []) m s))
+    go None e false s h = refl
+    go (Some i) e t s h = absurd (both_ways true h refl)
 
 apart : (seen ns : List (List ℕ)) → distinct_from seen ns ≡ true → (k i : ℕ) → k < length seen → i < length ns → same_name (get_or seen k []) (get_or ns i []) ≡ false
 apart seen [] h k i l o = absurd (omega arith)
-apart seen (n ∷ ns) h k zero l o = none_same 0 n seen (not-true (is_some (found_at n seen)) (and_parts (not (is_some (found_at n seen))) (distinct_from (seen ++ n ∷ []) ns) h).0) k l
+apart seen (n ∷ ns) h k zero l o = none_same n seen (not-true (is_some (found_at n seen)) (and_parts (not (is_some (found_at n seen))) (distinct_from (seen ++ n ∷ []) ns) h).0) k l
 apart seen (n ∷ ns) h k (suc i) l o =
     let e = length_push seen n in
     ap (λ x. same_name x (get_or ns i [])) (sym (get_or_append_left seen (n ∷ []) [] k l)) ∙ apart (seen ++ n ∷ []) ns (and_parts (not (is_some (found_at n seen))) (distinct_from (seen ++ n ∷ []) ns) h).1 k i (omega arith) (omega arith)

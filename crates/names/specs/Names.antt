@@ -49,10 +49,3 @@ distinct_from seen (n ∷ ns) = not (is_some (found_at n seen)) && distinct_from
 -- well formed and distinct
 abbrev pub proper_names : List (List ℕ) → Bool
 proper_names ns = each good_name ns && distinct_from [] ns
-
--- the same, byte by byte, for the contracts of the loops
-abbrev pub AllInName : List ℕ → Type 0
-AllInName s = (i : ℕ) → i < length s → in_name (slice_index s i) ≡ true
-
-abbrev pub Alike : List ℕ → List ℕ → Type 0
-Alike a b = (i : ℕ) → i < length a → slice_index a i ≡ slice_index b i

@@ -1,6 +1,9 @@
 -- Every table that was read is a proper one.
-use Rattle.std.proofs.Common.{List, [], ◌∷◌, take, ap, ◌∙◌, arith}
+use Rattle.std.proofs.Common.{◌≡◌, List, [], ◌∷◌, length, ap, ◌∙◌, arith}
+use Rattle.std.proofs.lemmas.List.{length-map}
 use Rattle.std.specs.List.{AllByRecursion}
+use Rattle.names.specs.Models.{spelling}
+use Rattle.table.specs.declared.fact_row.FactRow.{FactRow}
 use Rattle.table.specs.declared.job_row.JobRow.{JobRow}
 use Rattle.table.specs.declared.table.Table.{Table}
 use Rattle.table.specs.Rows.{rows_of, proper_jobs}
@@ -13,9 +16,5 @@ full (r ∷ rs) = (record { precondition = r.job.precondition.size; effect = r.j
 
 pub proper : (t : Table) → ProperTable (table_of t)
 proper t =
-    record {
-      few = omega (arith, t.counted_facts, t.few_facts);
-      facts = t.named;
-      jobs = ap (λ n. proper_jobs n (table_of t).jobs) t.counted_facts ∙ t.able;
-      places = full (take t.job_count t.jobs);
-    }
+    let count : length (table_of t).facts ≡ length t.facts.items = length-map t.facts.items (λ (r : FactRow). spelling r.name) in
+    record { few = omega (arith, t.few_facts, count); facts = t.named; jobs = ap (λ n. proper_jobs n (table_of t).jobs) count ∙ t.able; places = full t.jobs.items }

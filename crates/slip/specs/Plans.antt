@@ -1,5 +1,5 @@
 -- What stands in the code's plans.
-use Rattle.std.specs.Prelude.{ℕ, Bool, false, ◌||◌, ◌⊎◌, List, [], ◌∷◌, ◌++◌, map, length, take}
+use Rattle.std.specs.Prelude.{ℕ, Bool, false, ◌||◌, ◌⊎◌, List, [], ◌∷◌, map, length}
 use Rattle.facts.specs.States.{mark, named, Named, nothing}
 use Rattle.facts.specs.Worlds.{Job}
 use Rattle.facts.specs.Models.{row}
@@ -10,16 +10,16 @@ use Rattle.verdict.specs.Verdicts.{Plan}
 use Rattle.derivation.specs.declared.draft.Draft.{Draft}
 use Rattle.slip.specs.declared.plan.Plan as code
 
--- a list with these jobs more
-abbrev pub with_jobs : Listed → List Job → Listed
-with_jobs l js = record { facts = l.facts; opening = l.opening; goal = l.goal; jobs = l.jobs ++ js }
+-- the list of a draft's states and the jobs of these numbers
+abbrev pub with_numbers : Table → Draft → List ℕ → Listed
+with_numbers t d ks = record { facts = length t.facts; opening = row d.opening; goal = row d.goal; jobs = map (job_at t) ks }
 
 -- the list of a draft
 abbrev pub draft_list : Table → Draft → Listed
-draft_list t d = record { facts = length t.facts; opening = row d.opening; goal = row d.goal; jobs = map (job_at t) (take d.len d.numbers) }
+draft_list t d = with_numbers t d d.numbers.items
 
 abbrev pub plan_of : code.Plan → Plan
-plan_of p = record { facts = (list_of p.list).facts; opening = (list_of p.list).opening; goal = (list_of p.list).goal; jobs = (list_of p.list).jobs; numbers = take (length (list_of p.list).jobs) p.numbers }
+plan_of p = record { facts = (list_of p.list).facts; opening = (list_of p.list).opening; goal = (list_of p.list).goal; jobs = (list_of p.list).jobs; numbers = p.numbers.items }
 
 -- the plan of no jobs and empty states over no facts
 abbrev pub no_plan : Plan

@@ -1,10 +1,10 @@
 -- What is read as a table is the text of that table.
-use Rattle.std.proofs.Common.{◌≡◌, ℕ, ◌+◌, ◌<◌, ◌≤◌, true, false, eqb, ltb, List, [], ◌∷◌, ◌++◌, map, length, get_or, is_some, Ok, sym, refl, ap, ◌∙◌, subst, append_assoc, append-nil, arith}
+use Rattle.std.proofs.Common.{◌≡◌, ℕ, ◌+◌, ◌<◌, ◌≤◌, true, false, eqb, ltb, List, [], ◌∷◌, ◌++◌, map, length, get_or, is_some, Some, None, Ok, Option, sym, refl, ap, ◌∙◌, subst, append_assoc, append-nil, arith}
 use Rattle.std.proofs.lemmas.Bool.{eqb-true, ltb-false, leb-false, not-false}
 use Rattle.std.proofs.lemmas.List.{map_push, length_push}
 use Rattle.facts.specs.Worlds.{Job}
 use Rattle.text.specs.declared.tag.Tag.{Tag}
-use Rattle.text.specs.declared.tag.Tag.TheVariants.{N, D, B, G, E, W, S, C, F, A, H, Other}
+use Rattle.text.specs.declared.tag.Tag.TheVariants.{N, D, B, G, E, W, S, C, F, A, H}
 use Rattle.text.specs.Lines.{lines, fields}
 use Rattle.text.specs.Tags.{tag_of}
 use Rattle.text.specs.Spelling.{join}
@@ -50,7 +50,7 @@ lines_push facts (m ∷ ls) (s ∷ rs) l r j k = (j.0, lines_push facts ls rs l 
 not_positive : (n : ℕ) → ltb 0 n ≡ false → n ≡ 0
 not_positive n h = let z : n ≤ 0 = ltb-false 0 n h in omega arith
 
-fact_read : (ls : List (List ℕ)) (t u : Table) (at : ℕ) (l : List ℕ) → tag_of l ≡ N → LinesOf ls t → fact_line t at (fields l) ≡ Ok u → LinesOf (ls ++ l ∷ []) u
+fact_read : (ls : List (List ℕ)) (t u : Table) (at : ℕ) (l : List ℕ) → tag_of l ≡ Some N → LinesOf ls t → fact_line t at (fields l) ≡ Ok u → LinesOf (ls ++ l ∷ []) u
 fact_read ls t u at l tag o h =
     let a = unless_ok _ _ _ _ h in
     let b = unless_ok _ _ _ _ a.second in
@@ -80,7 +80,7 @@ fact_read ls t u at l tag o h =
       jobs = subst (λ (x : List Row). JobLines (t.facts ++ n ∷ []) [] x) (sym none.1) tt;
     })
 
-job_read : (ls : List (List ℕ)) (t u : Table) (at : ℕ) (l : List ℕ) → tag_of l ≡ D → LinesOf ls t → job_line t at (fields l) ≡ Ok u → LinesOf (ls ++ l ∷ []) u
+job_read : (ls : List (List ℕ)) (t u : Table) (at : ℕ) (l : List ℕ) → tag_of l ≡ Some D → LinesOf ls t → job_line t at (fields l) ≡ Ok u → LinesOf (ls ++ l ∷ []) u
 job_read ls t u at l tag o h =
     let a = unless_ok _ _ _ _ h in
     let b = unless_ok _ _ _ _ a.second in
@@ -113,19 +113,19 @@ job_read ls t u at l tag o h =
 line_read : (ls : List (List ℕ)) (t u : Table) (at : ℕ) (l : List ℕ) → LinesOf ls t → table_line t at l ≡ Ok u → LinesOf (ls ++ l ∷ []) u
 line_read ls t u at l o h = go (tag_of l) refl h
   where
-    go : (g : Tag) → tag_of l ≡ g → by_tag g t at (fields l) ≡ Ok u → LinesOf (ls ++ l ∷ []) u
-    go N e k = fact_read ls t u at l e o k
-    go D e k = job_read ls t u at l e o k
-    go B e k = let z : ◌≡◌ {A = ℕ} 0 1 = cc in absurd (omega arith)
-    go G e k = let z : ◌≡◌ {A = ℕ} 0 1 = cc in absurd (omega arith)
-    go E e k = let z : ◌≡◌ {A = ℕ} 0 1 = cc in absurd (omega arith)
-    go W e k = let z : ◌≡◌ {A = ℕ} 0 1 = cc in absurd (omega arith)
-    go S e k = let z : ◌≡◌ {A = ℕ} 0 1 = cc in absurd (omega arith)
-    go C e k = let z : ◌≡◌ {A = ℕ} 0 1 = cc in absurd (omega arith)
-    go F e k = let z : ◌≡◌ {A = ℕ} 0 1 = cc in absurd (omega arith)
-    go A e k = let z : ◌≡◌ {A = ℕ} 0 1 = cc in absurd (omega arith)
-    go H e k = let z : ◌≡◌ {A = ℕ} 0 1 = cc in absurd (omega arith)
-    go Other e k = let z : ◌≡◌ {A = ℕ} 0 1 = cc in absurd (omega arith)
+    go : (g : Option Tag) → tag_of l ≡ g → by_tag g t at (fields l) ≡ Ok u → LinesOf (ls ++ l ∷ []) u
+    go (Some N) e k = fact_read ls t u at l e o k
+    go (Some D) e k = job_read ls t u at l e o k
+    go (Some B) e k = let z : ◌≡◌ {A = ℕ} 0 1 = cc in absurd (omega arith)
+    go (Some G) e k = let z : ◌≡◌ {A = ℕ} 0 1 = cc in absurd (omega arith)
+    go (Some E) e k = let z : ◌≡◌ {A = ℕ} 0 1 = cc in absurd (omega arith)
+    go (Some W) e k = let z : ◌≡◌ {A = ℕ} 0 1 = cc in absurd (omega arith)
+    go (Some S) e k = let z : ◌≡◌ {A = ℕ} 0 1 = cc in absurd (omega arith)
+    go (Some C) e k = let z : ◌≡◌ {A = ℕ} 0 1 = cc in absurd (omega arith)
+    go (Some F) e k = let z : ◌≡◌ {A = ℕ} 0 1 = cc in absurd (omega arith)
+    go (Some A) e k = let z : ◌≡◌ {A = ℕ} 0 1 = cc in absurd (omega arith)
+    go (Some H) e k = let z : ◌≡◌ {A = ℕ} 0 1 = cc in absurd (omega arith)
+    go None e k = let z : ◌≡◌ {A = ℕ} 0 1 = cc in absurd (omega arith)
 
 lines_read : (ls : List (List ℕ)) (t u : Table) (at : ℕ) (ms : List (List ℕ)) → LinesOf ls t → table_lines t at ms ≡ Ok u → LinesOf (ls ++ ms) u
 lines_read ls t u at [] o h = subst (LinesOf (ls ++ [])) (same_ok _ _ h) (subst (λ (x : List (List ℕ)). LinesOf x t) (sym (append-nil ls)) o)

@@ -1,15 +1,13 @@
 -- One row more at the end of a table.
-use Rattle.std.proofs.Common.{◌≡◌, ℕ, ◌+◌, ◌<◌, ◌≤◌, Bool, true, false, not, List, [], ◌∷◌, ◌++◌, length, get_or, take, set, is_some, Some, sym, refl, ap, ◌∙◌, append_assoc, append-nil, arith}
-use Rattle.std.proofs.lemmas.List.{length-map, take_more_set, map_push, get_or-map, get_or-take, length-take-le}
+use Rattle.std.proofs.Common.{◌≡◌, ℕ, Bool, true, false, not, List, [], ◌∷◌, ◌++◌, is_some, sym, refl, ap, ◌∙◌, append_assoc, append-nil}
+use Rattle.std.proofs.lemmas.List.{map_push}
 use Rattle.std.proofs.lemmas.Bool.{and_parts, and_from, not_from_false}
 use Rattle.facts.specs.Worlds.{job_within}
 use Rattle.text.specs.Lists.{each}
-use Rattle.names.specs.Names.{good_name, found_at, FirstOf, distinct_from, proper_names}
+use Rattle.names.specs.Names.{good_name, found_at, distinct_from, proper_names}
 use Rattle.names.specs.Models.{spelling}
-use Rattle.table.specs.declared.fact_row.FactRow.{FactRow}
 use Rattle.table.specs.declared.job_row.JobRow.{JobRow}
-use Rattle.table.specs.Jobs.{no_row}
-use Rattle.table.specs.Rows.{Row, row_of, rows_of, titles, job_titles, job_names, proper_jobs}
+use Rattle.table.specs.Rows.{Row, rows_of, job_titles, job_names, proper_jobs}
 
 each_push : {X : Type 0} (p : X → Bool) (xs : List X) (x : X) → each p xs ≡ true → p x ≡ true → each p (xs ++ x ∷ []) ≡ true
 each_push p [] x h k = and_from (p x) true k refl
@@ -35,22 +33,6 @@ jobs_push n rs r h g k w =
     (ap proper_names (map_push (λ (x : Row). x.name) rs r) ∙ proper_push (job_names rs) r.name q.0 g k)
     (each_push (λ (x : Row). job_within n x.job) rs r q.1 w)
 
-pub titles_more : (fs : List FactRow) (n : ℕ) (r : FactRow) → n < length fs → titles (take (n + 1) (set fs n r)) ≡ titles (take n fs) ++ spelling r.name ∷ []
-titles_more fs n r h = ap titles (take_more_set fs n r h) ∙ map_push (λ (x : FactRow). spelling x.name) (take n fs) r
-
-pub rows_more : (rs : List JobRow) (n : ℕ) (r : JobRow) → n < length rs → rows_of (take (n + 1) (set rs n r)) ≡ rows_of (take n rs) ++ row_of r ∷ []
-rows_more rs n r h = ap rows_of (take_more_set rs n r h) ∙ map_push row_of (take n rs) r
-
 pub names_same : (rs : List JobRow) → job_titles rs ≡ job_names (rows_of rs)
 names_same [] = refl
 names_same (r ∷ rs) = ap (λ l. spelling r.name ∷ l) (names_same rs)
-
--- a job that is found by its name is one of the rows
-pub found_below : (rs : List Row) (n : List ℕ) (k : ℕ) → FirstOf (job_names rs) n (Some k) → k < length rs
-found_below rs n k h = omega (arith, h.0, length-map rs (λ (r : Row). r.name))
-
--- a row of the table, read in the array
-pub row_inside : (rs : List JobRow) (n k : ℕ) (d : JobRow) → k < n → n ≤ length rs → row_of (get_or rs k d) ≡ get_or (rows_of (take n rs)) k no_row
-row_inside rs n k d h fits =
-    let size : length (take n rs) ≡ n = length-take-le n rs fits in
-    sym (get_or-map row_of (take n rs) k d no_row (omega arith) ∙ ap row_of (get_or-take n rs k d h))

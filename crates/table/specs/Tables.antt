@@ -1,9 +1,9 @@
 -- The table in a text: every text is read, or gets its one refusal.
-use Rattle.std.specs.Prelude.{ℕ, ◌+◌, not, List, [], ◌∷◌, ◌++◌, length, is_some, Ok, Err, Result, ◌==◌, nat_le, nat_lt, slice_index_or}
+use Rattle.std.specs.Prelude.{ℕ, ◌+◌, not, List, [], ◌∷◌, ◌++◌, length, is_some, Some, None, Ok, Err, Option, Result, ◌==◌, nat_le, nat_lt, slice_index_or}
 use Rattle.facts.specs.Worlds.{Job}
 use Rattle.text.specs.declared.fault.Place.{Place}
 use Rattle.text.specs.declared.tag.Tag.{Tag}
-use Rattle.text.specs.declared.tag.Tag.TheVariants.{N, D, B, G, E, W, S, C, F, A, H, Other}
+use Rattle.text.specs.declared.tag.Tag.TheVariants.{N, D, B, G, E, W, S, C, F, A, H}
 use Rattle.text.specs.Chains.{then, then_in, unless}
 use Rattle.text.specs.Looks.{looked}
 use Rattle.text.specs.Lines.{lines, fields}
@@ -60,19 +60,19 @@ job_line t at fs =
     then (job_states t.facts at fs) (λ j.
     Ok (with_job t (record { name = n; job = j }))))))
 
-abbrev pub by_tag : Tag → Table → ℕ → List (List ℕ) → Result Table TableFault
-by_tag N t at fs = fact_line t at fs
-by_tag D t at fs = job_line t at fs
-by_tag B t at fs = Err (WrongTag at)
-by_tag G t at fs = Err (WrongTag at)
-by_tag E t at fs = Err (WrongTag at)
-by_tag W t at fs = Err (WrongTag at)
-by_tag S t at fs = Err (WrongTag at)
-by_tag C t at fs = Err (WrongTag at)
-by_tag F t at fs = Err (WrongTag at)
-by_tag A t at fs = Err (WrongTag at)
-by_tag H t at fs = Err (WrongTag at)
-by_tag Other t at fs = Err (WrongTag at)
+abbrev pub by_tag : Option Tag → Table → ℕ → List (List ℕ) → Result Table TableFault
+by_tag (Some N) t at fs = fact_line t at fs
+by_tag (Some D) t at fs = job_line t at fs
+by_tag (Some B) t at fs = Err (WrongTag at)
+by_tag (Some G) t at fs = Err (WrongTag at)
+by_tag (Some E) t at fs = Err (WrongTag at)
+by_tag (Some W) t at fs = Err (WrongTag at)
+by_tag (Some S) t at fs = Err (WrongTag at)
+by_tag (Some C) t at fs = Err (WrongTag at)
+by_tag (Some F) t at fs = Err (WrongTag at)
+by_tag (Some A) t at fs = Err (WrongTag at)
+by_tag (Some H) t at fs = Err (WrongTag at)
+by_tag None t at fs = Err (WrongTag at)
 
 abbrev pub table_line : Table → ℕ → List ℕ → Result Table TableFault
 table_line t at l = by_tag (tag_of l) t at (fields l)

@@ -9,6 +9,7 @@ pub struct FactRow {
     pub name: Name,
 }
 
+// The line of a job's row once more: the rows are two public types, and a trait cannot name the field that both have.
 impl Named for FactRow {
     ghost title = { λ r. spelling r.name };
 

@@ -19,6 +19,7 @@ pub enum TableFault {
     OutOfOrder(u32),
 }
 
+// Each kind of text has its own fault and this step into it: a fault names all its cases, so that a match over it is whole.
 impl From<TextFault> for TableFault {
     ghost from_gives = { λ e r. r ≡ Text e };
 
@@ -32,33 +33,21 @@ impl TableFault {
     pub fn refusal(&self) -> Refusal
         ensures value { (result.number, result.line, result.field) ≡ refusal_of_table self.now }
     {
-        match *self {
+        Refusal::from(*self)
+    }
+}
+
+impl From<TableFault> for Refusal {
+    ghost from_gives = { λ e r. (r.number, r.line, r.field) ≡ refusal_of_table e };
+
+    fn from(fault: TableFault) -> Refusal {
+        match fault {
             TableFault::Text(fault) => fault.refusal(),
-            TableFault::WrongTag(line) => Refusal {
-                number: 4,
-                line,
-                field: 1,
-            },
-            TableFault::WrongFields(line) => Refusal {
-                number: 5,
-                line,
-                field: 1,
-            },
-            TableFault::NameUsed(at) => Refusal {
-                number: 10,
-                line: at.line,
-                field: at.field,
-            },
-            TableFault::TooManyLines(line) => Refusal {
-                number: 11,
-                line,
-                field: 1,
-            },
-            TableFault::OutOfOrder(line) => Refusal {
-                number: 12,
-                line,
-                field: 1,
-            },
+            TableFault::WrongTag(line) => Refusal::new(4, line, 1),
+            TableFault::WrongFields(line) => Refusal::new(5, line, 1),
+            TableFault::NameUsed(at) => at.refused(10),
+            TableFault::TooManyLines(line) => Refusal::new(11, line, 1),
+            TableFault::OutOfOrder(line) => Refusal::new(12, line, 1),
         }
     }
 }

@@ -11,6 +11,7 @@ pub struct JobRow {
     pub job: Job,
 }
 
+// The line of a fact's row once more: the rows are two public types, and a trait cannot name the field that both have.
 impl Named for JobRow {
     ghost title = { λ r. spelling r.name };
 

@@ -1,8 +1,16 @@
 -- A text cut at a byte.
-use Rattle.std.proofs.Common.{◌≡◌, ℕ, zero, suc, ◌+◌, ◌-◌, ◌<◌, ◌≤◌, true, false, cond, eqb, List, [], ◌∷◌, length, get_or, take, drop, Some, None, Option, sym, refl, ap, ◌∙◌, add-one, arith, length-drop, Bor}
-use Rattle.std.proofs.lemmas.List.{take_rest, drop_all}
-use Rattle.std.proofs.lemmas.Bool.{eq-eqb, ne_eqb}
-use Rattle.text.specs.Lines.{before, onto, cutting, lines, parts}
+use Rattle.std.proofs.Common.{◌≡◌, ℕ, suc, ◌+◌, ◌-◌, ◌<◌, ◌≤◌, Bool, true, false, cond, eqb, ltb, List, [], ◌∷◌, length, take, drop, get_or, Some, None, Option, sym, refl, ap, ◌∙◌, arith, length-drop, Bor}
+use Rattle.std.specs.Option.{option_map, unwrap_or}
+use Rattle.std.specs.List.{count_by, position, position_or_len, slice_get}
+use Rattle.std.proofs.lemmas.List.Quantifiers.{position-Some}
+use Rattle.std.proofs.lemmas.List.Splits.{length-slice_split, slice_split_first, slice_split_none}
+use Rattle.std.proofs.lemmas.List.Sums.{position_or_len_is, fails_before_first}
+use Rattle.std.proofs.lemmas.List.{take_rest}
+use Rattle.std.proofs.lemmas.Bool.{ltb-false}
+use Rattle.std.proofs.lemmas.Option.{unwrap_or-slice_get}
+use Rattle.text.specs.Lines.{cutting, lines, parts, Cut, NextLine}
+use Rattle.text.proofs.Joins.{parts_split, some_part, join_parts}
+use Rattle.text.specs.Spelling.{join}
 
 -- the parts still to come, and what bounds their number
 abbrev pub still : ℕ → Option (Bor (List ℕ)) → List (List ℕ)
@@ -13,78 +21,69 @@ abbrev pub left_of : Option (Bor (List ℕ)) → ℕ
 left_of None = 0
 left_of (Some t) = suc (length t.now)
 
--- what the code's search for a byte finds
-pub before_is : (k : ℕ) (s : List ℕ) (n : ℕ) → n ≤ length s → ((i : ℕ) → i < n → get_or s i 0 ≡ k → ⊥) → (n < length s → get_or s n 0 ≡ k) → n ≡ before k s
-before_is k [] n l h e = omega arith
-before_is k (b ∷ s) zero l h e = sym (ap (λ t. cond t 0 (suc (before k s))) (eq-eqb b k (e (omega arith))))
-before_is k (b ∷ s) (suc n) l h e =
-    ap suc (before_is k s n (omega arith) (λ i m. h (suc i) (omega arith)) (λ m. e (omega arith)))
-    ∙ sym (ap (λ t. cond t 0 (suc (before k s))) (ne_eqb b k (h 0 (omega arith))))
+pub parts_cut : (k : ℕ) (s : List ℕ) (n : ℕ) → position (λ b. eqb b k) s ≡ Some n → (parts k s ≡ take n s ∷ parts k (take (length s - (n + 1)) (drop (n + 1) s))) × (length (take (length s - (n + 1)) (drop (n + 1) s)) < length s)
+parts_cut k s n h =
+    let p = λ (b : ℕ). eqb b k in
+    let q = position-Some p s n 0 h in
+    let at : position_or_len p s ≡ n = position_or_len_is p s n 0 (omega (arith, q.0)) q.2 (λ _. q.1) in
+    let rest = take_rest s (n + 1) in
+    (parts_split k s ∙ slice_split_first p s 0 (omega (arith, q.0)) ∙ (λ i. take (at i) s ∷ sym (parts_split k (drop (at i + 1) s)) i) ∙ (λ i. take n s ∷ parts k (sym rest i)), omega (arith, q.0, ap length rest, length-drop (n + 1) s))
 
-parts_cut : (k : ℕ) (s : List ℕ) → before k s < length s → parts k s ≡ take (before k s) s ∷ parts k (drop (suc (before k s)) s)
-parts_cut k [] h = absurd (omega arith)
-parts_cut k (b ∷ s) h =
-    (elim (eqb b k) as (λ t. cond t 0 (suc (before k s)) < suc (length s) → cutting t b (parts k s) ≡ take (cond t 0 (suc (before k s))) (b ∷ s) ∷ parts k (drop (suc (cond t 0 (suc (before k s)))) (b ∷ s)))
-    [ true ↦ λ h. refl | false ↦ λ h. ap (onto b) (parts_cut k s (omega arith)) ]) h
+pub parts_whole : (k : ℕ) (s : List ℕ) → position (λ b. eqb b k) s ≡ None → parts k s ≡ s ∷ []
+parts_whole k s h = parts_split k s ∙ slice_split_none p s (λ i d l. fails_before_first p s i d (omega (arith, far (ltb (position_or_len p s) (length s)) refl h)))
+  where
+    p : ℕ → Bool
+    p b = eqb b k
 
-parts_last : (k : ℕ) (s : List ℕ) → length s ≤ before k s → parts k s ≡ take (before k s) s ∷ []
-parts_last k [] h = refl
-parts_last k (b ∷ s) h =
-    (elim (eqb b k) as (λ t. suc (length s) ≤ cond t 0 (suc (before k s)) → cutting t b (parts k s) ≡ take (cond t 0 (suc (before k s))) (b ∷ s) ∷ [])
-    [ true ↦ λ h. absurd (omega arith) | false ↦ λ h. ap (onto b) (parts_last k s (omega arith)) ]) h
+    far : (t : Bool) → ltb (position_or_len p s) (length s) ≡ t → cond t (Some (position_or_len p s)) None ≡ None → length s ≤ position_or_len p s
+    far true e h = absurd (cc)
+    far false e h = ltb-false (position_or_len p s) (length s) e
 
-lines_cut : (s : List ℕ) → before 10 s < length s → lines s ≡ take (before 10 s) s ∷ lines (drop (suc (before 10 s)) s)
-lines_cut [] h = absurd (omega arith)
-lines_cut (b ∷ s) h =
-    (elim (eqb b 10) as (λ t. cond t 0 (suc (before 10 s)) < suc (length s) → cutting t b (lines s) ≡ take (cond t 0 (suc (before 10 s))) (b ∷ s) ∷ lines (drop (suc (cond t 0 (suc (before 10 s)))) (b ∷ s)))
-    [ true ↦ λ h. refl | false ↦ λ h. ap (onto b) (lines_cut s (omega arith)) ]) h
+-- the lines are the parts at 0A without an empty last one
+last : List ℕ → List (List ℕ)
+last [] = []
+last (b ∷ p) = (b ∷ p) ∷ []
 
--- the last line, which nothing ends
-lines_onto : (b : ℕ) (s : List ℕ) → length s ≤ before 10 s → onto b (lines s) ≡ (b ∷ take (before 10 s) s) ∷ []
-lines_onto b [] h = refl
-lines_onto b (x ∷ s) h =
-    (elim (eqb x 10) as (λ t. suc (length s) ≤ cond t 0 (suc (before 10 s)) → onto b (cutting t x (lines s)) ≡ (b ∷ take (cond t 0 (suc (before 10 s))) (x ∷ s)) ∷ [])
-    [ true ↦ λ h. absurd (omega arith) | false ↦ λ h. ap (onto b) (lines_onto x s (omega arith)) ]) h
+ended : List (List ℕ) → List (List ℕ)
+ended [] = []
+ended (p ∷ []) = last p
+ended (p ∷ q ∷ ps) = p ∷ ended (q ∷ ps)
 
-lines_last : (b : ℕ) (s : List ℕ) → suc (length s) ≤ before 10 (b ∷ s) → lines (b ∷ s) ≡ take (before 10 (b ∷ s)) (b ∷ s) ∷ []
-lines_last b s h =
-    (elim (eqb b 10) as (λ t. suc (length s) ≤ cond t 0 (suc (before 10 s)) → cutting t b (lines s) ≡ take (cond t 0 (suc (before 10 s))) (b ∷ s) ∷ [])
-    [ true ↦ λ h. absurd (omega arith) | false ↦ λ h. lines_onto b s (omega arith) ]) h
+lines_parts : (s : List ℕ) → lines s ≡ ended (parts 10 s)
+unfolding ended last
+lines_parts [] = refl
+lines_parts (b ∷ s) =
+    let r = some_part 10 s in
+    ap (cutting (eqb b 10) b) (lines_parts s ∙ ap ended r.2) ∙ go (eqb b 10) r.0 r.1 ∙ ap (λ ps. ended (cutting (eqb b 10) b ps)) (sym r.2)
+  where
+    go : (t : Bool) (p : List ℕ) (ps : List (List ℕ)) → cutting t b (ended (p ∷ ps)) ≡ ended (cutting t b (p ∷ ps))
+    go true p ps = refl
+    go false [] [] = refl
+    go false (c ∷ p) [] = refl
+    go false p (q ∷ ps) = refl
 
-lines_end : (s : List ℕ) → 0 < length s → length s ≤ before 10 s → lines s ≡ take (before 10 s) s ∷ []
-lines_end [] p h = absurd (omega arith)
-lines_end (b ∷ s) p h = lines_last b s h
+last_some : (p : List ℕ) → 0 < length p → last p ≡ p ∷ []
+unfolding last
+last_some [] h = absurd (omega arith)
+last_some (b ∷ p) h = refl
 
--- the parts as the code has them, `&s[0..n]` and `&s[n + 1..]`
-front_part : (n : ℕ) (s : List ℕ) → take (n - 0) s ≡ take n s
-front_part n s = ap (λ k. take k s) (omega arith)
+-- the next line, and what is left after it
+pub next_of_cut : (s : List ℕ) (line : Bor (List ℕ)) (more : Option (Bor (List ℕ))) (none : Bor (List ℕ)) → none.now ≡ [] → 0 < length s → Cut 10 s line.now more → NextLine s (Some line) (unwrap_or more none).now
+unfolding ended
+next_of_cut s line None none n some h =
+    let whole : line.now ≡ s = sym (ap (join 10) h) ∙ join_parts 10 s in
+    (lines_parts s ∙ ap ended h ∙ last_some line.now (omega (arith, ap length whole)) ∙ ap (λ t. line.now ∷ lines t) (sym n), omega (arith, ap length n))
+next_of_cut s line (Some t) none n some h =
+    let r = some_part 10 t.now in
+    (lines_parts s ∙ ap ended (h.0 ∙ ap (λ ps. line.now ∷ ps) r.2) ∙ ap (λ ls. line.now ∷ ls) (sym (lines_parts t.now ∙ ap ended r.2)), h.1)
 
-back_part : (n : ℕ) (s : List ℕ) → take (length s - (n + 1)) (drop (n + 1) s) ≡ drop (suc n) s
-back_part n s = take_rest s (n + 1) ∙ ap (λ k. drop k s) (add-one n)
+-- an item of a list, or else the default
+pub shown_or : (r : Option (Bor (List ℕ))) (none : Bor (List ℕ)) (all : List (List ℕ)) (i : ℕ) → none.now ≡ [] → option_map (λ x. x.now) r ≡ slice_get all i → (unwrap_or r none).now ≡ get_or all i []
+shown_or r none all i n h = go r h ∙ unwrap_or-slice_get all i []
+  where
+    go : (r : Option (Bor (List ℕ))) → option_map (λ x. x.now) r ≡ slice_get all i → (unwrap_or r none).now ≡ unwrap_or (slice_get all i) []
+    go None h = n ∙ ap (λ o. unwrap_or o []) h
+    go (Some x) h = ap (λ o. unwrap_or o []) h
 
-pub cut_at : (k : ℕ) (s : List ℕ) (n : ℕ) → n ≡ before k s → n < length s → (parts k s ≡ take (n - 0) s ∷ parts k (take (length s - (n + 1)) (drop (n + 1) s))) × (length (take (length s - (n + 1)) (drop (n + 1) s)) < length s)
-cut_at k s n e h = (
-  parts_cut k s (omega arith) ∙ ap (λ m. take m s ∷ parts k (drop (suc m) s)) (sym e) ∙ sym (λ i. front_part n s i ∷ parts k (back_part n s i)),
-  omega (arith, ap length (take_rest s (n + 1)), length-drop (n + 1) s),
-)
-
-pub cut_one : (k : ℕ) (s : List ℕ) (n : ℕ) → n ≡ before k s → length s ≤ n → parts k s ≡ take (n - 0) s ∷ []
-cut_one k s n e h = parts_last k s (omega arith) ∙ ap (λ m. take m s ∷ []) (sym e) ∙ sym (λ i. front_part n s i ∷ [])
-
-lines_at : (s : List ℕ) (n : ℕ) → n ≡ before 10 s → n < length s → lines s ≡ take (n - 0) s ∷ lines (take (length s - (n + 1)) (drop (n + 1) s))
-lines_at s n e h = lines_cut s (omega arith) ∙ ap (λ k. take k s ∷ lines (drop (suc k) s)) (sym e) ∙ sym (λ i. front_part n s i ∷ lines (back_part n s i))
-
-lines_one : (s : List ℕ) (n : ℕ) → 0 < length s → n ≡ before 10 s → length s ≤ n → lines s ≡ take (n - 0) s ∷ lines (take (length s - n) (drop n s))
-lines_one s n p e h = lines_end s p (omega arith) ∙ ap (λ k. take k s ∷ []) (sym e) ∙ sym (λ i. front_part n s i ∷ lines ((take_rest s n ∙ drop_all n s h) i))
-
-pub line_cut : (s t : List ℕ) (n : ℕ) → t ≡ take (length s - (n + 1)) (drop (n + 1) s) → n ≡ before 10 s → n < length s → (lines s ≡ take (n - 0) s ∷ lines t) × (length t < length s)
-line_cut s t n e v h = (
-  lines_at s n v h ∙ ap (λ x. take (n - 0) s ∷ lines x) (sym e),
-  omega (arith, ap length (e ∙ take_rest s (n + 1)), length-drop (n + 1) s),
-)
-
-pub line_end : (s t : List ℕ) (n : ℕ) → t ≡ take (length s - n) (drop n s) → 0 < length s → n ≡ before 10 s → length s ≤ n → (lines s ≡ take (n - 0) s ∷ lines t) × (length t < length s)
-line_end s t n e p v h = (
-  lines_one s n p v h ∙ ap (λ x. take (n - 0) s ∷ lines x) (sym e),
-  omega (arith, ap length (e ∙ take_rest s n), length-drop n s),
-)
+pub part_count : (s : List ℕ) → length (parts 9 s) ≡ count_by (λ b. eqb b 9) s + 1
+part_count s = ap length (parts_split 9 s) ∙ length-slice_split (λ b. eqb b 9) s

@@ -5,11 +5,10 @@ use Rattle.std.proofs.lemmas.Bool.Decides.{nat_tests}
 use Rattle.std.proofs.lemmas.Bool.{and_parts, eqb-true, ltb-false, both_ways}
 use Rattle.text.specs.declared.fault.TextFault.{TextFault}
 use Rattle.text.specs.declared.fault.TextFault.TheVariants.{TooLong, Unended}
-use Rattle.text.specs.declared.whole.Cursor.{Cursor}
 use Rattle.text.specs.Chains.{then, unless}
 use Rattle.text.specs.Lines.{onto, cutting, lines}
 use Rattle.text.specs.Lists.{each}
-use Rattle.text.specs.Looks.{Kind, kind_of, by_kind, stepped, passed, start, ended, looked}
+use Rattle.text.specs.Looks.{Cursor, Kind, kind_of, by_kind, stepped, passed, start, ended, looked}
 use Rattle.text.specs.Looks.Kind.{newline, tab, plain, bad}
 use Rattle.text.specs.Spelling.{closed}
 use Rattle.text.proofs.Joins.{Free}
@@ -83,12 +82,12 @@ last_closed b c d e f = go (eqb b 10) refl
     stale newline n h = n refl
     stale tab n h = let same : d ≡ record { line = c.line; field = c.field + 1; fresh = false } = cc in both_ways d.fresh (ap (λ x. x.fresh) same) f
     stale plain n h = let same : d ≡ record { line = c.line; field = c.field; fresh = false } = cc in both_ways d.fresh (ap (λ x. x.fresh) same) f
-    stale bad n h = let z : ◌≡◌ {A = ℕ} 0 1 = cc in omega arith
+    stale bad n h = cc
 
     other : (y z : Bool) → cond y tab (cond z plain bad) ≡ newline → ⊥
-    other true z h = let w : ◌≡◌ {A = ℕ} 0 1 = cc in omega arith
-    other false true h = let w : ◌≡◌ {A = ℕ} 0 1 = cc in omega arith
-    other false false h = let w : ◌≡◌ {A = ℕ} 0 1 = cc in omega arith
+    other true z h = cc
+    other false true h = cc
+    other false false h = cc
 
     go : (t : Bool) → eqb b 10 ≡ t → closed (cutting t b []) ≡ b ∷ []
     go true h = λ i. sym (eqb-true b 10 h) i ∷ []
@@ -99,17 +98,17 @@ ends c d [] e = let same : c ≡ d = cc in record { none = λ _. sym same; some 
 ends c d (b ∷ s) e = go (λ m h. ends m d s h) (stepped c b) refl e
   where
     nonempty : (b ∷ s ≡ []) → ⊥
-    nonempty h = let q = ap (λ (l : List ℕ). length l) h in omega arith
+    nonempty h = cc
 
     both : (m : Cursor) → stepped c b ≡ Ok m → Ends m d s → (t : List ℕ) → s ≡ t → d.fresh ≡ true → closed (lines (b ∷ s)) ≡ b ∷ s
     both m h r [] q f = ap (λ t. closed (lines (b ∷ t))) q ∙ last_closed b c d (sym (h ∙ ap Ok (sym (r.none q)))) f ∙ sym (ap (λ t. b ∷ t) q)
     both m h r (x ∷ t) q f =
-        let n : s ≡ [] → ⊥ = λ z. let w = ap (λ (l : List ℕ). length l) (sym q ∙ z) in omega arith in
+        let n : s ≡ [] → ⊥ = λ z. cc in
         cut_closed b s n (r.some n f)
 
     go : ((m : Cursor) → passed m s ≡ Ok d → Ends m d s) → (r : Result Cursor TextFault) → stepped c b ≡ r → then r (λ m. passed m s) ≡ Ok d → Ends c d (b ∷ s)
     go next (Ok m) h k = record { none = λ z. absurd (nonempty z); some = λ _ f. both m h (next m k) s refl f }
-    go next (Err x) h k = let z : ◌≡◌ {A = ℕ} 0 1 = cc in absurd (omega arith)
+    go next (Err x) h k = absurd (cc)
 
 pub record Whole (s : List ℕ) : Type 0 where
   pub short : length s ≤ 1048576
@@ -123,16 +122,16 @@ looked_whole s e = long (ltb 1048576 (length s)) refl e
       where
         go : (x : Bool) → ◌≡◌ {A = Result (Unit {0}) TextFault} (cond x (Ok tt) (Err (Unended d.line))) (Ok tt) → x ≡ true
         go true k = refl
-        go false k = let z : ◌≡◌ {A = ℕ} 0 1 = cc in absurd (omega arith)
+        go false k = absurd (cc)
 
     lined : (d : Cursor) → passed start s ≡ Ok d → ended d ≡ Ok tt → (t : List ℕ) → s ≡ t → closed (lines s) ≡ s
     lined d h k [] q = ap (λ t. closed (lines t)) q ∙ sym q
-    lined d h k (x ∷ t) q = (ends start d s h).some (λ z. let w = ap (λ (l : List ℕ). length l) (sym q ∙ z) in omega arith) (fresh d k)
+    lined d h k (x ∷ t) q = (ends start d s h).some (λ z. cc) (fresh d k)
 
     through : (r : Result Cursor TextFault) → passed start s ≡ r → then r ended ≡ Ok tt → closed (lines s) ≡ s
     through (Ok d) h k = lined d h k s refl
-    through (Err x) h k = let z : ◌≡◌ {A = ℕ} 0 1 = cc in absurd (omega arith)
+    through (Err x) h k = absurd (cc)
 
     long : (x : Bool) → ltb 1048576 (length s) ≡ x → unless x TooLong (λ _. then (passed start s) ended) ≡ Ok tt → Whole s
-    long true l h = let z : ◌≡◌ {A = ℕ} 0 1 = cc in absurd (omega arith)
+    long true l h = absurd (cc)
     long false l h = record { short = ltb-false 1048576 (length s) l; lined = through (passed start s) refl h }

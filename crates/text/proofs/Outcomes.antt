@@ -4,11 +4,10 @@ use Rattle.std.specs.List.{AllByRecursion}
 use Rattle.std.proofs.lemmas.Bool.{and_parts, and_from, ltb-true, ltb-false}
 use Rattle.text.specs.declared.fault.TextFault.{TextFault}
 use Rattle.text.specs.declared.fault.TextFault.TheVariants.{TooLong, BadByte, Unended, BadName, NoSign, UnknownName, FactTwice}
-use Rattle.text.specs.declared.whole.Cursor.{Cursor}
 use Rattle.text.specs.Chains.{then, unless}
 use Rattle.text.specs.Lines.{onto, cutting, lines}
 use Rattle.text.specs.Lists.{each}
-use Rattle.text.specs.Looks.{by_kind, passed, start, ended, looked, text_byte, newlines, field_after, FirstBad, Looks}
+use Rattle.text.specs.Looks.{Cursor, by_kind, passed, start, ended, looked, text_byte, newlines, field_after, FirstBad, Looks}
 use Rattle.text.specs.Looks.Kind.{newline, tab, plain, bad}
 use Rattle.text.specs.Spelling.{closed}
 use Rattle.text.proofs.Looking.{looked_at}
@@ -93,7 +92,7 @@ lines_lined (b ∷ s) h =
     go k true e g = (refl, k)
     go k false e g = onto_lined b (lines s) (sym (λ d. e d || line_byte b) ∙ g) k
 
-pub looks_so : (s : List ℕ) → Looks s (looked s)
+looks_so : (s : List ℕ) → Looks s (looked s)
 looks_so s = long (ltb 1048576 (length s)) refl
   where
     last : (d : Cursor) → length s ≤ 1048576 → passed start s ≡ Ok d → Passed start d s → (x : Bool) → d.fresh ≡ x → Looks s (cond x (Ok tt) (Err (Unended d.line)))
@@ -106,8 +105,7 @@ looks_so s = long (ltb 1048576 (length s)) refl
         open_end c =
             let ok : looked s ≡ Ok tt = sym (ap looked c) ∙ looked_closed (lines s) (subst (λ (z : List ℕ). length z ≤ 1048576) (sym c) l) (lines_lined s w.bytes) in
             let not_ok : looked s ≡ Err (Unended d.line) = looked_at s l ∙ ap (λ r. then r ended) h ∙ ap (λ x. cond x (Ok tt) (Err (Unended d.line))) e in
-            let z : ◌≡◌ {A = ℕ} 0 1 = cc in
-            omega arith
+            cc
 
     through : length s ≤ 1048576 → (r : Result Cursor TextFault) → passed start s ≡ r → Walks start s r → Looks s (then r ended)
     through l (Ok d) h w = last d l h w d.fresh refl
@@ -122,3 +120,6 @@ looks_so s = long (ltb 1048576 (length s)) refl
     long : (x : Bool) → ltb 1048576 (length s) ≡ x → Looks s (unless x TooLong (λ _. then (passed start s) ended))
     long true l = ltb-true 1048576 (length s) l
     long false l = through (ltb-false 1048576 (length s) l) (passed start s) refl (walks start s)
+
+pub looks_of : (s : List ℕ) (r : Result (Unit {0}) TextFault) → r ≡ looked s → Looks s r
+looks_of s r is = subst (Looks s) (sym is) (looks_so s)

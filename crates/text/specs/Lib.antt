@@ -5,3 +5,4 @@ pub mod Lists
 pub mod Spelling
 pub mod Looks
 pub mod Tags
+pub mod Numbered

@@ -3,7 +3,6 @@ use Rattle.std.specs.Prelude.{◌≡◌, ℕ, suc, ◌+◌, ◌<◌, ◌≤◌, 
 use Rattle.text.specs.declared.fault.TextFault.{TextFault}
 use Rattle.text.specs.declared.fault.TextFault.TheVariants.{TooLong, BadByte, Unended, BadName, NoSign, UnknownName, FactTwice}
 use Rattle.text.specs.declared.fault.Place.{Place}
-use Rattle.text.specs.declared.whole.Cursor.{Cursor}
 use Rattle.text.specs.Chains.{then, unless}
 use Rattle.text.specs.Lines.{lines}
 use Rattle.text.specs.Lists.{each}
@@ -18,6 +17,19 @@ pub data Kind : Type 0 where
 -- a byte of a text: 0A, 09, 20 to 7E; or one that no text has
 abbrev pub kind_of : ℕ → Kind
 kind_of b = cond (b == 10) newline (cond (b == 9) tab (cond (nat_le 32 b && nat_le b 126) plain bad))
+
+-- where the byte after one of this kind stands, if that one stands here
+abbrev pub placed : Kind → Place → Result Place TextFault
+placed newline at = Ok (record { line = at.line + 1; field = 1 })
+placed tab at = Ok (record { line = at.line; field = at.field + 1 })
+placed plain at = Ok at
+placed bad at = Err (BadByte at)
+
+-- where a byte stands, and whether it begins a line
+pub record Cursor : Type 0 where
+  pub line : ℕ
+  pub field : ℕ
+  pub fresh : Bool
 
 abbrev pub by_kind : Kind → Cursor → Result Cursor TextFault
 by_kind newline c = Ok (record { line = c.line + 1; field = 1; fresh = true })

@@ -1,13 +1,15 @@
 //! The lines of a text and the fields of a line.
-ghost use Rattle.std.specs.Prelude.{◌≡◌, ℕ, ◌<◌, ◌≤◌, [], length, ◌≢◌, slice_index, slice_index_or};
-ghost use Rattle.text.specs.Lines.{Cut, NextLine, fields};
+ghost use Rattle.std.specs.Prelude.{◌≡◌, ◌==◌, [], length, slice_index_or};
+ghost use Rattle.std.specs.Iterator.{YieldsFirstRef, item_count};
+ghost use Rattle.std.specs.List.{position};
+ghost use Rattle.text.specs.Lines.{Cut, NextLine, fields, lines};
 
 pub(crate) const TAB: u8 = 0x09;
 
 pub(crate) const NEWLINE: u8 = 0x0A;
 
 /// What of a text is still to be read.
-#[derive(Drop)]
+#[derive(Clone, Debug, Drop)]
 pub struct Lines<'a> {
     rest: &'a [u8],
 }
@@ -21,75 +23,67 @@ impl<'a> Lines<'a> {
     }
 
     /// The next line without its end, or none after the last.
+    #[tactic(auto, using(crate::proofs::Cuts::next_of_cut))]
     pub fn next_line(&mut self) -> Option<&'a [u8]>
         ensures cases { NextLine self.old.rest.now result self.new.rest.now }
     {
-        let s = self.rest;
-        if s.len() == 0 {
+        if self.rest.is_empty() {
             return None;
         }
-        let n = before(s, NEWLINE);
-        let line = &s[0..n];
-        if n < s.len() {
-            self.rest = &s[n + 1..];
-        } else {
-            self.rest = &s[n..];
-        }
+        let (line, more) = cut(self.rest, NEWLINE);
+        self.rest = more.unwrap_or(&[]);
         Some(line)
     }
 }
 
+impl<'a> Iterator for Lines<'a> {
+    type Item = &'a [u8];
+
+    ghost next_gives = { YieldsFirstRef (λ s. lines s.rest.now) };
+
+    ghost remaining = { item_count (λ s. lines s.rest.now) };
+
+    fn next(&mut self) -> Option<&'a [u8]> {
+        self.next_line()
+    }
+}
+
 /// The number of fields of a line: one more than its tabs.
+#[tactic(auto, using(crate::proofs::Cuts::part_count))]
 pub fn field_count(line: &[u8]) -> usize
     ensures value { result ≡ length (fields line.now) }
 {
-    let mut n = 0;
-    let mut rest = Some(line);
-    while let Some(s) = rest {
-        let (_part, more) = cut(s, TAB);
-        n += 1;
-        rest = more;
-    }
-    n
+    line.iter().filter(|b| is_tab(b)).count() + 1
 }
 
 /// The field of this number, from 0; no bytes past the last.
 pub fn field(line: &[u8], i: u8) -> &[u8]
     ensures value { result.now ≡ slice_index_or (fields line.now) i [] }
 {
-    let (part, more) = cut(line, TAB);
-    if i == 0 {
-        return part;
-    }
-    match more {
-        None => &line[0..0],
-        Some(rest) => field(rest, i - 1),
-    }
+    line.split(is_tab).nth(usize::from(i)).unwrap_or(&[])
+}
+
+/// A tab, which parts two fields.
+fn is_tab(b: &u8) -> bool
+    ensures value { result ≡ b.now == 9 }
+{
+    *b == TAB
 }
 
 /// What stands before the first stop byte, and what follows it, if there is one.
+#[tactic(auto, using(crate::proofs::Cuts::parts_whole, crate::proofs::Cuts::parts_cut))]
 pub fn cut(s: &[u8], stop: u8) -> (&[u8], Option<&[u8]>)
     ensures cases { Cut stop s.now result.0.now result.1 }
 {
-    let n = before(s, stop);
-    let part = &s[0..n];
-    if n < s.len() {
-        (part, Some(&s[n + 1..]))
-    } else {
-        (part, None)
+    match index_of(s, stop) {
+        None => (s, None),
+        Some(n) => (&s[..n], Some(&s[n + 1..])),
     }
 }
 
-/// How many bytes stand before the first stop byte.
-fn before(s: &[u8], stop: u8) -> usize
-    ensures bound { result ≤ length s.now }
-    ensures none { (k : ℕ) → k < result → slice_index s.now k ≢ stop }
-    ensures stops { result < length s.now → slice_index s.now result ≡ stop }
+/// Where the first stop byte stands.
+fn index_of(s: &[u8], stop: u8) -> Option<usize>
+    ensures value { result ≡ position (λ b. b == stop) s.now }
 {
-    for (i, b) in s.iter().enumerate() {
-        if *b == stop {
-            return i;
-        }
-    }
-    s.len()
+    s.iter().position(|b| *b == stop)
 }

@@ -4,8 +4,8 @@ ghost use Rattle.text.specs.Tags.{tag_of, by_letter};
 
 use crate::lines::field;
 
-/// The tags that texts have, and `Other` for any other first field.
-#[derive(Clone, Copy)]
+/// The tags that texts have.
+#[derive(Clone, Copy, PartialEq, Eq, Debug)]
 pub enum Tag {
     N,
     D,
@@ -18,36 +18,37 @@ pub enum Tag {
     F,
     A,
     H,
-    Other,
 }
 
 impl Tag {
-    /// The tag of a line.
-    pub fn of(line: &[u8]) -> Tag
+    /// The tag of a line; none where the first field is no tag.
+    pub fn of(line: &[u8]) -> Option<Tag>
         ensures value { result ≡ tag_of line.now }
     {
         match field(line, 0) {
             [letter] => by_letter(*letter),
-            _ => Tag::Other,
+            _ => None,
         }
     }
 }
 
-fn by_letter(letter: u8) -> Tag
+/// The tag of a letter. An Option and no `TryFrom`: a letter that is no tag is no error yet.
+fn by_letter(letter: u8) -> Option<Tag>
     ensures value { result ≡ by_letter letter }
 {
+    // A tag is one character, and is matched as one.
     match letter as char {
-        'N' => Tag::N,
-        'D' => Tag::D,
-        'B' => Tag::B,
-        'G' => Tag::G,
-        'E' => Tag::E,
-        'W' => Tag::W,
-        'S' => Tag::S,
-        'C' => Tag::C,
-        'F' => Tag::F,
-        'A' => Tag::A,
-        'H' => Tag::H,
-        _ => Tag::Other,
+        'N' => Some(Tag::N),
+        'D' => Some(Tag::D),
+        'B' => Some(Tag::B),
+        'G' => Some(Tag::G),
+        'E' => Some(Tag::E),
+        'W' => Some(Tag::W),
+        'S' => Some(Tag::S),
+        'C' => Some(Tag::C),
+        'F' => Some(Tag::F),
+        'A' => Some(Tag::A),
+        'H' => Some(Tag::H),
+        _ => None,
     }
 }

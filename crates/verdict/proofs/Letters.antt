@@ -1,8 +1,8 @@
 -- What a line is by its tag and its number of fields.
-use Rattle.std.proofs.Common.{◌≡◌, ℕ, eqb, List, [], ◌∷◌, length, get_or, Ok, Err, Result, sym, refl, ap, ◌∙◌, arith}
+use Rattle.std.proofs.Common.{◌≡◌, ℕ, eqb, List, [], ◌∷◌, length, get_or, Some, None, Ok, Err, Option, Result, sym, refl, ap, ◌∙◌, arith}
 use Rattle.std.proofs.lemmas.Bool.{eqb-true, not-false}
 use Rattle.text.specs.declared.tag.Tag.{Tag}
-use Rattle.text.specs.declared.tag.Tag.TheVariants.{N, D, B, G, E, W, S, C, F, A, H, Other}
+use Rattle.text.specs.declared.tag.Tag.TheVariants.{N, D, B, G, E, W, S, C, F, A, H}
 use Rattle.text.specs.Chains.{then}
 use Rattle.text.specs.Lines.{fields}
 use Rattle.text.specs.Tags.{tag_of}
@@ -52,19 +52,19 @@ rule_read l at r h = go (tag_of l) refl h
     tagged_line : (x : rules.Rule) (b : ℕ) → get_or (fields l) 0 [] ≡ bare b → (length (fields l) ≡ 2) × (x ≡ r) → rule_text x (get_or (fields l) 1 []) ≡ tagged b (get_or (fields l) 1 []) → l ≡ rule_text r (get_or (fields l) 1 [])
     tagged_line x b e p q = two_fields l b e p.0 ∙ sym q ∙ ap (λ y. rule_text y (get_or (fields l) 1 [])) p.1
 
-    go : (g : Tag) → tag_of l ≡ g → then (slip_tag g at) (λ x. as_rule x (length (fields l)) at) ≡ Ok r → l ≡ rule_text r (get_or (fields l) 1 [])
-    go H e k = bare_line Halt 72 (tag_letter H _ e) (fit _ _ _ _ _ k) refl
-    go C e k = bare_line Compose 67 (tag_letter C _ e) (fit _ _ _ _ _ k) refl
-    go A e k = tagged_line Apply 65 (tag_letter A _ e) (fit _ _ _ _ _ k) refl
-    go W e k = tagged_line Weaken 87 (tag_letter W _ e) (fit _ _ _ _ _ k) refl
-    go S e k = tagged_line Shrink 83 (tag_letter S _ e) (fit _ _ _ _ _ k) refl
-    go F e k = tagged_line Frame 70 (tag_letter F _ e) (fit _ _ _ _ _ k) refl
-    go B e k = let z : ◌≡◌ {A = ℕ} 0 1 = cc in absurd (omega arith)
-    go G e k = let z : ◌≡◌ {A = ℕ} 0 1 = cc in absurd (omega arith)
-    go N e k = let z : ◌≡◌ {A = ℕ} 0 1 = cc in absurd (omega arith)
-    go D e k = let z : ◌≡◌ {A = ℕ} 0 1 = cc in absurd (omega arith)
-    go E e k = let z : ◌≡◌ {A = ℕ} 0 1 = cc in absurd (omega arith)
-    go Other e k = let z : ◌≡◌ {A = ℕ} 0 1 = cc in absurd (omega arith)
+    go : (g : Option Tag) → tag_of l ≡ g → then (slip_tag g at) (λ x. as_rule x (length (fields l)) at) ≡ Ok r → l ≡ rule_text r (get_or (fields l) 1 [])
+    go (Some H) e k = bare_line Halt 72 (tag_letter H _ e) (fit _ _ _ _ _ k) refl
+    go (Some C) e k = bare_line Compose 67 (tag_letter C _ e) (fit _ _ _ _ _ k) refl
+    go (Some A) e k = tagged_line Apply 65 (tag_letter A _ e) (fit _ _ _ _ _ k) refl
+    go (Some W) e k = tagged_line Weaken 87 (tag_letter W _ e) (fit _ _ _ _ _ k) refl
+    go (Some S) e k = tagged_line Shrink 83 (tag_letter S _ e) (fit _ _ _ _ _ k) refl
+    go (Some F) e k = tagged_line Frame 70 (tag_letter F _ e) (fit _ _ _ _ _ k) refl
+    go (Some B) e k = let z : ◌≡◌ {A = ℕ} 0 1 = cc in absurd (omega arith)
+    go (Some G) e k = let z : ◌≡◌ {A = ℕ} 0 1 = cc in absurd (omega arith)
+    go (Some N) e k = let z : ◌≡◌ {A = ℕ} 0 1 = cc in absurd (omega arith)
+    go (Some D) e k = let z : ◌≡◌ {A = ℕ} 0 1 = cc in absurd (omega arith)
+    go (Some E) e k = let z : ◌≡◌ {A = ℕ} 0 1 = cc in absurd (omega arith)
+    go None e k = let z : ◌≡◌ {A = ℕ} 0 1 = cc in absurd (omega arith)
 
 abbrev pub header_letter : headers.Header → ℕ
 header_letter Opening = 66
@@ -76,18 +76,18 @@ header_read wanted l at u h = go wanted (tag_of l) refl h
     never : {X : Type 0} (f : SlipFault) → ◌≡◌ {A = Result (Unit {0}) SlipFault} (Err f) (Ok u) → X
     never f k = let z : ◌≡◌ {A = ℕ} 0 1 = cc in absurd (omega arith)
 
-    go : (w : headers.Header) (g : Tag) → tag_of l ≡ g → then (slip_tag g at) (λ x. as_header w x (length (fields l)) at) ≡ Ok u → l ≡ tagged (header_letter w) (get_or (fields l) 1 [])
-    go Opening B e k = two_fields l 66 (tag_letter B _ e) (fit _ _ _ _ _ k).0
-    go Goal B e k = never _ k
-    go Opening G e k = never _ k
-    go Goal G e k = two_fields l 71 (tag_letter G _ e) (fit _ _ _ _ _ k).0
-    go w H e k = never _ k
-    go w A e k = never _ k
-    go w C e k = never _ k
-    go w W e k = never _ k
-    go w S e k = never _ k
-    go w F e k = never _ k
-    go w N e k = never _ k
-    go w D e k = never _ k
-    go w E e k = never _ k
-    go w Other e k = never _ k
+    go : (w : headers.Header) (g : Option Tag) → tag_of l ≡ g → then (slip_tag g at) (λ x. as_header w x (length (fields l)) at) ≡ Ok u → l ≡ tagged (header_letter w) (get_or (fields l) 1 [])
+    go Opening (Some B) e k = two_fields l 66 (tag_letter B _ e) (fit _ _ _ _ _ k).0
+    go Goal (Some B) e k = never _ k
+    go Opening (Some G) e k = never _ k
+    go Goal (Some G) e k = two_fields l 71 (tag_letter G _ e) (fit _ _ _ _ _ k).0
+    go w (Some H) e k = never _ k
+    go w (Some A) e k = never _ k
+    go w (Some C) e k = never _ k
+    go w (Some W) e k = never _ k
+    go w (Some S) e k = never _ k
+    go w (Some F) e k = never _ k
+    go w (Some N) e k = never _ k
+    go w (Some D) e k = never _ k
+    go w (Some E) e k = never _ k
+    go w None e k = never _ k

@@ -1,7 +1,7 @@
 -- What a line of a slip is, and how many fields it has.
-use Rattle.std.specs.Prelude.{ℕ, not, Ok, Err, Result, ◌==◌}
+use Rattle.std.specs.Prelude.{ℕ, not, Some, None, Ok, Err, Option, Result, ◌==◌}
 use Rattle.text.specs.declared.tag.Tag.{Tag}
-use Rattle.text.specs.declared.tag.Tag.TheVariants.{N, D, B, G, E, W, S, C, F, A, H, Other}
+use Rattle.text.specs.declared.tag.Tag.TheVariants.{N, D, B, G, E, W, S, C, F, A, H}
 use Rattle.text.specs.Chains.{then, unless}
 use Rattle.verdict.specs.declared.fault.SlipFault.{SlipFault}
 use Rattle.verdict.specs.declared.fault.SlipFault.TheVariants.{WrongTag, WrongFields, OutOfOrder}
@@ -13,19 +13,19 @@ use Rattle.verdict.specs.declared.rule.SlipTag.{SlipTag}
 use Rattle.verdict.specs.declared.rule.SlipTag.TheVariants.{Header, Rule}
 
 -- the tags of a slip; any other gets 4
-abbrev pub slip_tag : Tag → ℕ → Result SlipTag SlipFault
-slip_tag B at = Ok (Header Opening)
-slip_tag G at = Ok (Header Goal)
-slip_tag H at = Ok (Rule Halt)
-slip_tag A at = Ok (Rule Apply)
-slip_tag C at = Ok (Rule Compose)
-slip_tag W at = Ok (Rule Weaken)
-slip_tag S at = Ok (Rule Shrink)
-slip_tag F at = Ok (Rule Frame)
-slip_tag N at = Err (WrongTag at)
-slip_tag D at = Err (WrongTag at)
-slip_tag E at = Err (WrongTag at)
-slip_tag Other at = Err (WrongTag at)
+abbrev pub slip_tag : Option Tag → ℕ → Result SlipTag SlipFault
+slip_tag (Some B) at = Ok (Header Opening)
+slip_tag (Some G) at = Ok (Header Goal)
+slip_tag (Some H) at = Ok (Rule Halt)
+slip_tag (Some A) at = Ok (Rule Apply)
+slip_tag (Some C) at = Ok (Rule Compose)
+slip_tag (Some W) at = Ok (Rule Weaken)
+slip_tag (Some S) at = Ok (Rule Shrink)
+slip_tag (Some F) at = Ok (Rule Frame)
+slip_tag (Some N) at = Err (WrongTag at)
+slip_tag (Some D) at = Err (WrongTag at)
+slip_tag (Some E) at = Err (WrongTag at)
+slip_tag None at = Err (WrongTag at)
 
 -- C and H have only the tag; the others have one field more
 abbrev pub width : rules.Rule → ℕ
@@ -53,8 +53,8 @@ as_rule (Header h) fields at = Err (OutOfOrder at)
 as_rule (Rule r) fields at = sized r (width r) fields at
 
 -- the line that has to come here: 4, then 12, then 5
-abbrev pub header_tag : headers.Header → Tag → ℕ → ℕ → Result (Unit {0}) SlipFault
+abbrev pub header_tag : headers.Header → Option Tag → ℕ → ℕ → Result (Unit {0}) SlipFault
 header_tag wanted tag fields at = then (slip_tag tag at) (λ x. as_header wanted x fields at)
 
-abbrev pub rule_tag : Tag → ℕ → ℕ → Result rules.Rule SlipFault
+abbrev pub rule_tag : Option Tag → ℕ → ℕ → Result rules.Rule SlipFault
 rule_tag tag fields at = then (slip_tag tag at) (λ x. as_rule x fields at)

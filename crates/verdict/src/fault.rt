@@ -39,6 +39,7 @@ pub enum SlipFault {
     EndDiffers,
 }
 
+// Each kind of text has its own fault and this step into it: a fault names all its cases, so that a match over it is whole.
 impl From<TextFault> for SlipFault {
     ghost from_gives = { λ e r. r ≡ Text e };
 
@@ -52,33 +53,31 @@ impl SlipFault {
     pub fn refusal(&self) -> Refusal
         ensures value { (result.number, result.line, result.field) ≡ refusal_of_slip self.now }
     {
-        match *self {
-            SlipFault::Text(fault) => fault.refusal(),
-            SlipFault::WrongTag(line) => at(4, line, 1),
-            SlipFault::WrongFields(line) => at(5, line, 1),
-            SlipFault::OutOfOrder(line) => at(12, line, 1),
-            SlipFault::Missing(line) => at(12, line, 0),
-            SlipFault::TooDeep(line) => at(20, line, 1),
-            SlipFault::EndsEarly(line) => at(21, line, 0),
-            SlipFault::LineAfter(line) => at(22, line, 1),
-            SlipFault::WeakenUncovered(line) => at(23, line, 2),
-            SlipFault::ComposeUncovered(line) => at(24, line, 1),
-            SlipFault::ShrinkUncovered(line) => at(25, line, 2),
-            SlipFault::EffectBarred(line) => at(26, line, 2),
-            SlipFault::FrameNamed(line) => at(27, line, 2),
-            SlipFault::TooManyJobs(line) => at(28, line, 1),
-            SlipFault::OpeningDiffers => at(29, 1, 2),
-            SlipFault::EndDiffers => at(29, 2, 2),
-        }
+        Refusal::from(*self)
     }
 }
 
-fn at(number: u8, line: u32, field: u32) -> Refusal
-    ensures value { (result.number ≡ number) × (result.line ≡ line) × (result.field ≡ field) }
-{
-    Refusal {
-        number,
-        line,
-        field,
+impl From<SlipFault> for Refusal {
+    ghost from_gives = { λ e r. (r.number, r.line, r.field) ≡ refusal_of_slip e };
+
+    fn from(fault: SlipFault) -> Refusal {
+        match fault {
+            SlipFault::Text(fault) => fault.refusal(),
+            SlipFault::WrongTag(line) => Refusal::new(4, line, 1),
+            SlipFault::WrongFields(line) => Refusal::new(5, line, 1),
+            SlipFault::OutOfOrder(line) => Refusal::new(12, line, 1),
+            SlipFault::Missing(line) => Refusal::new(12, line, 0),
+            SlipFault::TooDeep(line) => Refusal::new(20, line, 1),
+            SlipFault::EndsEarly(line) => Refusal::new(21, line, 0),
+            SlipFault::LineAfter(line) => Refusal::new(22, line, 1),
+            SlipFault::WeakenUncovered(line) => Refusal::new(23, line, 2),
+            SlipFault::ComposeUncovered(line) => Refusal::new(24, line, 1),
+            SlipFault::ShrinkUncovered(line) => Refusal::new(25, line, 2),
+            SlipFault::EffectBarred(line) => Refusal::new(26, line, 2),
+            SlipFault::FrameNamed(line) => Refusal::new(27, line, 2),
+            SlipFault::TooManyJobs(line) => Refusal::new(28, line, 1),
+            SlipFault::OpeningDiffers => Refusal::new(29, 1, 2),
+            SlipFault::EndDiffers => Refusal::new(29, 2, 2),
+        }
     }
 }

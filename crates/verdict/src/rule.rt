@@ -1,7 +1,7 @@
 //! The six rules by name, and the lines that a slip has.
 
 /// A rule line of a slip.
-#[derive(Clone, Copy)]
+#[derive(Clone, Copy, PartialEq, Eq, Debug)]
 pub enum Rule {
     /// H: nothing is done.
     Halt,
@@ -18,7 +18,7 @@ pub enum Rule {
 }
 
 /// A line of a slip that holds one of its two states.
-#[derive(Clone, Copy)]
+#[derive(Clone, Copy, PartialEq, Eq, Debug)]
 pub enum Header {
     /// B: what holds before the first job.
     Opening,
@@ -27,7 +27,7 @@ pub enum Header {
 }
 
 /// What a line of a slip is.
-#[derive(Clone, Copy)]
+#[derive(Clone, Copy, PartialEq, Eq, Debug)]
 pub enum SlipTag {
     Header(Header),
     Rule(Rule),

@@ -8,8 +8,6 @@ ghost use Rattle.std.specs.Prelude.{◌≡◌, true};
 ghost use Rattle.worked.specs.Cases.{all_hold, cases};
 
 /// Every case has its answer.
-pub fn cases_hold() -> u8
+pub fn cases_hold()
     ensures cases { all_hold cases ≡ true }
-{
-    0
-}
+{}

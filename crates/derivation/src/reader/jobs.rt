@@ -11,29 +11,22 @@ use crate::bar::Bar;
 use crate::ends::Ends;
 use crate::reader::Reader;
 use facts::Job;
-use lists::MAX_JOBS;
 use table::Table;
-use text::{Place, field};
+use text::Line;
 use verdict::SlipFault;
 
 impl Reader<'_> {
     /// The job of an A line, and its ends.
-    pub(crate) fn apply(
-        &mut self,
-        table: &Table,
-        line: &[u8],
-        at: u32,
-        bar: &Bar,
-    ) -> Result<Ends, SlipFault>
-        ensures reads { Says ends_of result (cursor_of self.new) (apply (table_of table.now) (bar_of bar.now) at (slice_index_or (fields line.now) 1 []) (cursor_of self.old)) }
+    pub(crate) fn apply(&mut self, table: &Table, line: &Line, bar: &Bar) -> Result<Ends, SlipFault>
+        ensures reads { Says ends_of result (cursor_of self.new) (apply (table_of table.now) (bar_of bar.now) line.now.number (slice_index_or (fields line.now.text.now) 1 []) (cursor_of self.old)) }
     {
-        if self.len >= MAX_JOBS {
-            return Err(SlipFault::TooManyJobs(at));
+        if self.jobs.is_full() {
+            return Err(SlipFault::TooManyJobs(line.number));
         }
-        let number = table.job_number(field(line, 1), Place { line: at, field: 2 })?;
+        let number = table.job_number(line.field(1), line.place(1))?;
         let job = table.job(number);
         if bar.bars(&job.effect) {
-            return Err(SlipFault::EffectBarred(at));
+            return Err(SlipFault::EffectBarred(line.number));
         }
         self.push(number);
         Ok(applied(&job))

@@ -1,13 +1,14 @@
 //! Questions of states, and states made of others.
-ghost use Rattle.std.specs.Prelude.{◌≡◌, not, Decides, MatchBool, MatchOption};
-ghost use Rattle.facts.specs.States.{mark, named, nothing, added, covers, Covers, same, apart, Apart, within, Within, lowest, overridden, without, missing};
+ghost use Rattle.std.specs.Prelude.{◌≡◌, Bool, not, Decides, MatchBool};
+ghost use Rattle.facts.specs.declared.mark.Mark.{Mark};
+ghost use Rattle.facts.specs.States.{mark, named, nothing, added, blend, covers, Covers, same, apart, Apart, within, Within, lowest, overridden, without, missing};
 ghost use Rattle.facts.specs.Models.{row, Leaves};
-ghost use Rattle.facts.specs.Scans.{NoneFrom, First};
+ghost use Rattle.facts.specs.Scans.{Computes, Everywhere, FailsSomewhere};
 ghost use Rattle.facts.specs.Words.{Overridden, Without, Missing, OneMore, Lowest, WhereOk};
 
-use crate::mark::{Mark, is_named, signed};
-use crate::state::pairs::{Cover, Disjoint, Equal, Lacking, Less, Override, all_pass, blended};
+use crate::mark::Mark;
 use crate::state::{LiteralFault, MAX_FACTS, State};
+use std::array;
 
 impl State {
     /// The state of no literals.
@@ -23,21 +24,18 @@ impl State {
     pub fn mark(&self, fact: usize) -> Mark
         ensures value { result ≡ mark (row self.now) fact }
     {
-        if fact < MAX_FACTS {
-            self.marks[fact]
-        } else {
-            Mark::Unnamed
-        }
+        self.marks.get(fact).copied().unwrap_or(Mark::Unnamed)
     }
 
     /// Whether the state has a literal of the fact.
     pub fn names(&self, fact: usize) -> bool
         ensures value { result ≡ named (mark (row self.now) fact) }
     {
-        is_named(self.mark(fact))
+        self.mark(fact).is_named()
     }
 
     /// One literal more, or a refusal that changes nothing.
+    // Two plain arguments: a literal with a type of its own would be made at every call only to be taken apart here.
     pub fn add(&mut self, fact: usize, holds: bool) -> Result<(), LiteralFault>
         ensures after { Leaves (added (row self.old) fact holds) (row self.old) result (row self.new) }
         ensures means { WhereOk result (OneMore (row self.old) fact holds (row self.new)) }
@@ -45,10 +43,10 @@ impl State {
         if fact >= MAX_FACTS {
             return Err(LiteralFault::FactPast);
         }
-        if is_named(self.marks[fact]) {
+        if self.marks[fact].is_named() {
             return Err(LiteralFault::FactNamed);
         }
-        self.marks[fact] = signed(holds);
+        self.marks[fact] = Mark::from(holds);
         Ok(())
     }
 
@@ -57,15 +55,15 @@ impl State {
         ensures value { result ≡ covers (row self.now) (row other.now) }
         ensures means { Decides result (Covers (row self.now) (row other.now)) }
     {
-        all_pass::<Cover>(self, other)
+        self.all_pass(other, Mark::covers)
     }
 
-    /// Whether the two have the same literals.
+    /// Whether the two have the same literals: `==` by a name whose contract says what it means.
     pub fn same(&self, other: &State) -> bool
         ensures value { result ≡ same (row self.now) (row other.now) }
         ensures means { Decides result (row self.now ≡ row other.now) }
     {
-        all_pass::<Equal>(self, other)
+        self == other
     }
 
     /// Whether some fact is named in both.
@@ -73,7 +71,7 @@ impl State {
         ensures value { result ≡ not (apart (row self.now) (row other.now)) }
         ensures means { Decides (not result) (Apart (row self.now) (row other.now)) }
     {
-        !all_pass::<Disjoint>(self, other)
+        !self.all_pass(other, Mark::is_apart)
     }
 
     /// Whether the state names only facts below `count`.
@@ -81,7 +79,7 @@ impl State {
         ensures value { result ≡ within count (row self.now) }
         ensures means { Decides result (Within count (row self.now)) }
     {
-        self.none_from(count)
+        !self.marks.iter().skip(count).any(|mark| mark.is_named())
     }
 
     /// The lowest fact that the state names.
@@ -89,7 +87,7 @@ impl State {
         ensures value { result ≡ lowest (row self.now) }
         ensures means { Lowest (row self.now) result }
     {
-        self.first()
+        self.marks.iter().position(|mark| mark.is_named())
     }
 
     /// The literals of `effect`, and those of this state whose fact `effect` does not name.
@@ -97,7 +95,7 @@ impl State {
         ensures value { row result ≡ overridden (row self.now) (row effect.now) }
         ensures means { Overridden (row self.now) (row effect.now) (row result) }
     {
-        blended::<Override>(self, effect)
+        self.blended(effect, Mark::overridden)
     }
 
     /// The literals of this state whose fact `other` does not name.
@@ -105,7 +103,7 @@ impl State {
         ensures value { row result ≡ without (row self.now) (row other.now) }
         ensures means { Without (row self.now) (row other.now) (row result) }
     {
-        blended::<Less>(self, other)
+        self.blended(other, Mark::without)
     }
 
     /// The literals of `wanted` that this state lacks.
@@ -113,30 +111,27 @@ impl State {
         ensures value { row result ≡ missing (row self.now) (row wanted.now) }
         ensures means { Missing (row self.now) (row wanted.now) (row result) }
     {
-        blended::<Lacking>(self, wanted)
+        self.blended(wanted, Mark::missing)
     }
 
-    /// Whether no fact from `count` on is named.
-    fn none_from(&self, count: usize) -> bool
-        ensures facts { MatchBool result (NoneFrom count (row self.now)) (NoneFrom count (row self.now) → ⊥) }
+    /// The state made of two, fact by fact: each mark is made of their marks there.
+    fn blended<F: Fn(Mark, Mark) -> Mark>(&self, other: &State, each: F) -> State
+        requires { F.IsAlwaysCallable each }
+        ensures value { (f : Mark → Mark → Mark) → Computes (F.post each) f → row result ≡ blend f (row self.now) (row other.now) }
     {
-        for fact in count..MAX_FACTS {
-            if is_named(self.marks[fact]) {
-                return false;
-            }
+        State {
+            marks: array::from_fn(|i| each(self.marks[i], other.marks[i])),
         }
-        true
     }
 
-    /// The first fact that is named.
-    fn first(&self) -> Option<usize>
-        ensures facts { MatchOption result (NoneFrom 0 (row self.now)) (First (row self.now)) }
+    /// Whether two states pass the test at every fact.
+    fn all_pass<F: Fn(Mark, Mark) -> bool>(&self, other: &State, test: F) -> bool
+        requires { F.IsAlwaysCallable test }
+        ensures facts { (f : Mark → Mark → Bool) → Computes (F.post test) f → MatchBool result (Everywhere f (row self.now) (row other.now)) (FailsSomewhere f (row self.now) (row other.now)) }
     {
-        for i in 0..MAX_FACTS {
-            if is_named(self.marks[i]) {
-                return Some(i);
-            }
-        }
-        None
+        self.marks
+            .iter()
+            .zip(&other.marks)
+            .all(|(p, q)| test(*p, *q))
     }
 }

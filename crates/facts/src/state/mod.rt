@@ -2,7 +2,6 @@
 ghost use Rattle.std.specs.Prelude.{◌≡◌, length};
 
 mod calls;
-mod pairs;
 
 use crate::mark::Mark;
 
@@ -10,7 +9,7 @@ use crate::mark::Mark;
 pub const MAX_FACTS: usize = 256;
 
 /// A set of literals that names each fact at most once: the mark of fact 0, of fact 1, and so on.
-#[derive(Clone, Copy)]
+#[derive(Clone, Copy, PartialEq, Eq, Debug)]
 pub struct State {
     pub(crate) marks: [Mark; MAX_FACTS],
     ghost size: { length marks ≡ 256 },

@@ -1,6 +1,7 @@
 //! Worlds made, read and changed.
-ghost use Rattle.std.specs.Prelude.{◌≡◌, ◌≤◌, false, length, slice_index_or};
-ghost use Rattle.facts.specs.Worlds.{set_facts, carry};
+ghost use Rattle.std.specs.Prelude.{◌≡◌, true};
+ghost use Rattle.facts.specs.States.{within};
+ghost use Rattle.facts.specs.Worlds.{carried, set_facts, carry};
 ghost use Rattle.facts.specs.Models.{row, job_of, size_of, seen, making_number, Made, Leaves};
 ghost use Rattle.facts.specs.Words.{Sets, WhereOk};
 
@@ -8,9 +9,11 @@ use crate::job::Job;
 use crate::reader::FactReader;
 use crate::state::{MAX_FACTS, State};
 use crate::world::{PastFault, World, WorldFault};
+use filled::Filled;
+use std::array;
 
 impl WorldFault {
-    /// The refusal's number.
+    /// The refusal's number. A method and no `From`, since its name says which number is asked for.
     pub fn number(&self) -> u8
         ensures value { result ≡ making_number self.now }
     {
@@ -25,10 +28,8 @@ impl World {
     pub fn new(facts: &[bool]) -> Result<World, WorldFault>
         ensures cases { Made facts.now result }
     {
-        if facts.len() > MAX_FACTS {
-            return Err(WorldFault::TooManyFacts);
-        }
-        Ok(World::of(facts))
+        let facts = Filled::copied(facts, false).map_err(|_| WorldFault::TooManyFacts)?;
+        Ok(World { facts })
     }
 
     /// Sets the facts of the state and no other. Refused, with nothing changed, where it names a fact past the number.
@@ -37,15 +38,10 @@ impl World {
         ensures means { WhereOk result (Sets (row state.now) (seen self.old) (seen self.new)) }
         ensures size { size_of self.new ≡ size_of self.old }
     {
-        let count = self.count;
-        if !state.within(count) {
+        if !state.within(self.count()) {
             return Err(PastFault::FactPast);
         }
-        let mut facts = self.facts;
-        for i in 0..MAX_FACTS {
-            facts[i] = state.mark(i).set(facts[i]);
-        }
-        *self = World { count, facts };
+        *self = self.after(state);
         Ok(())
     }
 
@@ -56,26 +52,32 @@ impl World {
         ensures means { WhereOk result (Sets (job_of job.now).effect (seen self.old) (seen self.new)) }
         ensures size { size_of self.new ≡ size_of self.old }
     {
-        if !job.precondition.within(self.count) {
+        if !job.precondition.within(self.count()) {
             return Err(PastFault::FactPast);
         }
         self.set(&job.effect)
     }
 
-    /// The world of these facts.
-    fn of(facts: &[bool]) -> World
-        requires { length facts.now ≤ 256 }
-        ensures size { size_of result ≡ length facts.now }
-        ensures facts { seen result ≡ (λ i. slice_index_or facts.now i false) }
+    /// The world with the facts of the state set, all of which it has.
+    // Lists make their example world in the same way. One maker for both would take a closure, and so ask something of
+    // its caller, which no public call does.
+    fn after(&self, state: &State) -> World
+        requires { within (size_of self.now) (row state.now) ≡ true }
+        ensures size { size_of result ≡ size_of self.now }
+        ensures facts { seen result ≡ carried (row state.now) (seen self.now) }
     {
-        let mut all = [false; MAX_FACTS];
-        for (i, holds) in facts.iter().enumerate() {
-            all[i] = *holds;
-        }
-        World {
-            count: facts.len(),
-            facts: all,
-        }
+        let facts: [bool; MAX_FACTS] = array::from_fn(|i| self.holds_after(state, i));
+        let Ok(world) = World::new(&facts[..self.facts.len()]) else {
+            unreachable()
+        };
+        world
+    }
+
+    /// Whether a fact holds once the state is set.
+    fn holds_after(&self, state: &State, at: usize) -> bool
+        ensures value { result ≡ carried (row state.now) (seen self.now) at }
+    {
+        state.mark(at).set(self.holds(at))
     }
 }
 
@@ -85,14 +87,10 @@ impl FactReader for World {
     ghost fact = { seen };
 
     fn count(&self) -> usize {
-        self.count
+        self.facts.len()
     }
 
     fn holds(&self, at: usize) -> bool {
-        if at < MAX_FACTS {
-            self.facts[at]
-        } else {
-            false
-        }
+        self.facts.as_slice().get(at).copied().unwrap_or(false)
     }
 }

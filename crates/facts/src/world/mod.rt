@@ -1,18 +1,16 @@
 //! Worlds: which facts hold.
-ghost use Rattle.std.specs.Prelude.{◌≡◌, ℕ, ◌≤◌, false, length, slice_index_or};
+ghost use Rattle.std.specs.Prelude.{◌≤◌, length};
 
 mod calls;
 
 use crate::state::MAX_FACTS;
+use filled::Filled;
 
-/// The first `count` facts, each holding or not; none past them holds.
+/// Up to 256 facts, each holding or not; none past them holds.
 #[derive(Clone, Copy)]
 pub struct World {
-    count: usize,
-    facts: [bool; MAX_FACTS],
-    ghost size: { length facts ≡ 256 },
-    ghost few: { count ≤ 256 },
-    ghost rest: { (i : ℕ) → count ≤ i → slice_index_or facts i false ≡ false },
+    facts: Filled<bool, MAX_FACTS>,
+    ghost few: { length facts.items ≤ 256 },
 }
 
 /// Why a world was not made.

@@ -7,6 +7,7 @@ ghost use Rattle.lists.specs.Models.{list_of, listed, more, with_job};
 
 use crate::list::{JobList, ListFault, MAX_JOBS};
 use facts::{Job, MAX_FACTS, State};
+use filled::Filled;
 
 impl JobList {
     /// The list of no jobs. Refused with more than 256 facts, then where a state names a fact not below `count`.
@@ -19,18 +20,11 @@ impl JobList {
         if !opening.within(count) || !goal.within(count) {
             return Err(ListFault::FactPast);
         }
-        let precondition = State::empty();
-        let effect = State::empty();
-        let job = Job {
-            precondition,
-            effect,
-        };
         Ok(JobList {
             count,
             opening,
             goal,
-            jobs: [job; MAX_JOBS],
-            len: 0,
+            jobs: Filled::over([Job::empty(); MAX_JOBS]),
         })
     }
 
@@ -39,7 +33,7 @@ impl JobList {
     pub fn push(&mut self, job: Job) -> Result<(), ListFault>
         ensures after { Leaves (with_job (list_of self.old) (job_of job)) (list_of self.old) result (list_of self.new) }
     {
-        if self.len >= MAX_JOBS {
+        if self.jobs.is_full() {
             return Err(ListFault::TooManyJobs);
         }
         if !job.within(self.count) {
@@ -75,16 +69,17 @@ impl JobList {
         ensures value { jobs_of result.now ≡ (list_of self.now).jobs }
         ensures bound { length result.now ≤ 64 }
     {
-        &self.jobs[0..self.len]
+        self.jobs.as_slice()
     }
 
     /// The job at the end, where there is room for it and it fits.
     fn store(&mut self, job: Job)
-        requires { (self.old.len < 64) × (job_within self.old.count (job_of job) ≡ true) }
+        requires room { length self.old.jobs.items < 64 }
+        requires inside { job_within self.old.count (job_of job) ≡ true }
         ensures after { list_of self.new ≡ more (list_of self.old) (job_of job) }
     {
-        let len = self.len;
-        self.jobs[len] = job;
-        self.len = len + 1;
+        let Ok(()) = self.jobs.push(job) else {
+            unreachable()
+        };
     }
 }

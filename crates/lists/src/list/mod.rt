@@ -1,11 +1,12 @@
 //! Lists of jobs, each with the opening that it starts from and the goal that it should reach.
-ghost use Rattle.std.specs.Prelude.{◌≡◌, ◌≤◌, true, length, take};
+ghost use Rattle.std.specs.Prelude.{◌≡◌, ◌≤◌, true, length};
 ghost use Rattle.facts.specs.Models.{row};
 ghost use Rattle.lists.specs.Lists.{fits, jobs_of};
 
 mod calls;
 
 use facts::{Job, State};
+use filled::Filled;
 
 /// The most jobs that a list has.
 pub const MAX_JOBS: usize = 64;
@@ -17,13 +18,10 @@ pub struct JobList {
     pub(crate) count: usize,
     pub(crate) opening: State,
     pub(crate) goal: State,
-    pub(crate) jobs: [Job; MAX_JOBS],
-    pub(crate) len: usize,
+    pub(crate) jobs: Filled<Job, MAX_JOBS>,
     ghost few: { count ≤ 256 },
-    ghost places: { length jobs ≡ 64 },
-    ghost short: { len ≤ 64 },
-    ghost counted: { length (jobs_of (take len jobs)) ≡ len },
-    ghost inside: { fits count (row opening) (row goal) (jobs_of (take len jobs)) ≡ true },
+    ghost short: { length jobs.items ≤ 64 },
+    ghost inside: { fits count (row opening) (row goal) (jobs_of jobs.items) ≡ true },
 }
 
 /// Why a list was not made, or a job not added to it.

@@ -1,11 +1,13 @@
 //! Names read, compared and found.
-ghost use Rattle.std.specs.Prelude.{◌≡◌, ℕ, ◌<◌, ◌≤◌, true, List, [], map, length, IfOk, MatchBool};
+ghost use Rattle.std.specs.Prelude.{◌≡◌, ℕ, true, List, [], map, IfOk, position};
+ghost use Rattle.std.specs.List.{list_all};
+ghost use Rattle.std.specs.Str.{bytes_eq};
 ghost use Rattle.facts.specs.Models.{mapped_ok};
-ghost use Rattle.text.specs.Lists.{each};
-ghost use Rattle.names.specs.Names.{letter, in_name, good_name, AllInName, Alike, same_name, found_at, FirstOf, name_field};
+ghost use Rattle.names.specs.Names.{good_name, in_name, found_at, FirstOf, name_field};
 ghost use Rattle.names.specs.Models.{spelling};
 
 use crate::name::{MAX_NAME, Name};
+use filled::Filled;
 use text::{Place, TextFault};
 
 /// A row that has a name.
@@ -25,15 +27,11 @@ pub fn find<R: Named>(rows: &[R], name: &[u8]) -> Option<usize>
     first_row(rows, name)
 }
 
+/// The same in the library's words, apart from `find`, so that a bug in the search is refused at the search.
 fn first_row<R: Named>(rows: &[R], name: &[u8]) -> Option<usize>
-    ensures value { result ≡ found_at name.now (map R.Named.title rows.now) }
+    ensures value { result ≡ position (λ row. bytes_eq (R.Named.title row) name.now) rows.now }
 {
-    for (i, row) in rows.iter().enumerate() {
-        if same_name(row.name(), name) {
-            return Some(i);
-        }
-    }
-    None
+    rows.iter().position(|row| row.name() == name)
 }
 
 impl Name {
@@ -42,8 +40,7 @@ impl Name {
         ensures value { spelling result ≡ [] }
     {
         Name {
-            bytes: [0; MAX_NAME],
-            len: 0,
+            bytes: Filled::over([0; MAX_NAME]),
         }
     }
 
@@ -55,91 +52,31 @@ impl Name {
         if !is_name(field) {
             return Err(TextFault::BadName(at));
         }
-        Ok(Name::of(field))
+        let Ok(bytes) = Filled::copied(field, 0) else {
+            unreachable()
+        };
+        Ok(Name { bytes })
     }
 
     /// The name's bytes.
     pub fn text(&self) -> &[u8]
         ensures value { result.now ≡ spelling self.now }
     {
-        &self.bytes[0..self.len as usize]
-    }
-
-    /// The name of these bytes.
-    fn of(s: &[u8]) -> Name
-        requires { length s.now ≤ 24 }
-        ensures value { spelling result ≡ s.now }
-    {
-        let mut bytes = [0; MAX_NAME];
-        for (i, b) in s.iter().enumerate() {
-            bytes[i] = *b;
-        }
-        Name {
-            bytes,
-            len: s.len() as u8,
-        }
+        self.bytes.as_slice()
     }
 }
 
 /// Whether the bytes are a name.
+#[tactic(auto, using(crate::proofs::Bytes::all_each))]
 pub(crate) fn is_name(s: &[u8]) -> bool
     ensures value { result ≡ good_name s.now }
 {
-    if s.len() < 1 || s.len() > MAX_NAME {
-        return false;
-    }
-    is_letter(s[0]) && all_in_name(s)
+    (1..=MAX_NAME).contains(&s.len()) && s[0].is_ascii_alphabetic() && all_in_name(s)
 }
 
 /// Whether each byte is one that a name may have.
 fn all_in_name(s: &[u8]) -> bool
-    ensures value { result ≡ each in_name s.now }
+    ensures value { result ≡ list_all in_name s.now }
 {
-    none_outside(s)
-}
-
-fn none_outside(s: &[u8]) -> bool
-    ensures cases { MatchBool result (AllInName s.now) (AllInName s.now → ⊥) }
-{
-    for b in s {
-        if !is_in_name(*b) {
-            return false;
-        }
-    }
-    true
-}
-
-fn is_letter(b: u8) -> bool
-    ensures value { result ≡ letter b }
-{
-    (b >= b'A' && b <= b'Z') || (b >= b'a' && b <= b'z')
-}
-
-fn is_in_name(b: u8) -> bool
-    ensures value { result ≡ in_name b }
-{
-    is_letter(b) || (b >= b'0' && b <= b'9') || b == b'_'
-}
-
-/// Whether two names are the same.
-pub(crate) fn same_name(a: &[u8], b: &[u8]) -> bool
-    ensures value { result ≡ same_name a.now b.now }
-{
-    if a.len() != b.len() {
-        return false;
-    }
-    same_bytes(a, b)
-}
-
-/// Whether two names of one length have the same bytes.
-fn same_bytes(a: &[u8], b: &[u8]) -> bool
-    requires { length a.now ≡ length b.now }
-    ensures cases { MatchBool result (Alike a.now b.now) (Alike a.now b.now → ⊥) }
-{
-    for (i, x) in a.iter().enumerate() {
-        if *x != b[i] {
-            return false;
-        }
-    }
-    true
+    s.iter().all(|b| b.is_ascii_alphanumeric() || *b == b'_')
 }

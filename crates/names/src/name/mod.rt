@@ -1,9 +1,10 @@
 //! Names, and the search among rows that have one.
-ghost use Rattle.std.specs.Prelude.{◌≤◌};
+ghost use Rattle.std.specs.Prelude.{◌≤◌, length};
 
 pub(crate) mod calls;
 
 pub use calls::{Named, find};
+use filled::Filled;
 
 /// The most bytes that a name has.
 pub const MAX_NAME: usize = 24;
@@ -11,7 +12,6 @@ pub const MAX_NAME: usize = 24;
 /// Up to 24 bytes.
 #[derive(Clone, Copy)]
 pub struct Name {
-    bytes: [u8; MAX_NAME],
-    len: u8,
-    ghost short: { len ≤ 24 },
+    bytes: Filled<u8, MAX_NAME>,
+    ghost short: { length bytes.items ≤ 24 },
 }

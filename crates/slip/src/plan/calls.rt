@@ -1,11 +1,14 @@
 //! Questions of a plan.
-ghost use Rattle.std.specs.Prelude.{◌≡◌, ◌≤◌, length, Decides};
+ghost use Rattle.std.specs.Prelude.{◌≡◌, ◌≤◌, [], length, Decides};
+ghost use Rattle.facts.specs.States.{nothing};
 ghost use Rattle.facts.specs.Models.{row, job_of};
 ghost use Rattle.lists.specs.Lists.{jobs_of};
+ghost use Rattle.lists.specs.Models.{list_of};
 ghost use Rattle.slip.specs.Plans.{plan_of, no_plan, job_names, jobs_name, footprint, Footprint};
 
 use crate::plan::Plan;
 use facts::{Job, State};
+use filled::Filled;
 use lists::{JobList, MAX_JOBS};
 
 impl Plan {
@@ -13,12 +16,9 @@ impl Plan {
     pub fn empty() -> Plan
         ensures value { plan_of result ≡ no_plan }
     {
-        match JobList::new(0, State::empty(), State::empty()) {
-            Ok(list) => Plan {
-                list,
-                numbers: [0; MAX_JOBS],
-            },
-            Err(_) => unreachable(),
+        Plan {
+            list: no_list(),
+            numbers: Filled::over([0; MAX_JOBS]),
         }
     }
 
@@ -55,7 +55,7 @@ impl Plan {
     pub fn numbers(&self) -> &[u8]
         ensures value { result.now ≡ (plan_of self.now).numbers }
     {
-        &self.numbers[0..self.jobs().len()]
+        self.numbers.as_slice()
     }
 
     /// Whether the fact is in the footprint: the opening, the goal or a job names it.
@@ -73,14 +73,21 @@ impl Plan {
     }
 }
 
+/// The list of no jobs and empty states, over no facts.
+fn no_list() -> JobList
+    ensures value { list_of result ≡ record { facts = 0; opening = nothing; goal = nothing; jobs = [] } }
+{
+    let Ok(list) = JobList::new(0, State::empty(), State::empty()) else {
+        unreachable()
+    };
+    list
+}
+
 /// Whether one of the jobs names the fact.
 fn any_names(jobs: &[Job], fact: usize) -> bool
     ensures value { result ≡ jobs_name (jobs_of jobs.now) fact }
 {
-    match jobs {
-        [] => false,
-        [job, rest @ ..] => job_names(job, fact) || any_names(rest, fact),
-    }
+    jobs.iter().any(|job| job_names(job, fact))
 }
 
 /// Whether the job names the fact, in its precondition or its effect.

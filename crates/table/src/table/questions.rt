@@ -9,7 +9,7 @@ ghost use Rattle.table.specs.Models.{table_of};
 use crate::fact_row::FactRow;
 use crate::job_row::JobRow;
 use crate::table::Table;
-use facts::{Job, State};
+use facts::Job;
 use names::{Name, find};
 use text::{Place, TextFault};
 
@@ -18,14 +18,14 @@ impl Table {
     pub fn fact_count(&self) -> usize
         ensures value { result ≡ length (table_of self.now).facts }
     {
-        self.fact_count
+        self.facts.len()
     }
 
     /// The number of jobs.
     pub fn job_count(&self) -> usize
         ensures value { result ≡ length (table_of self.now).jobs }
     {
-        self.job_count
+        self.jobs.len()
     }
 
     /// The facts, in the order of their numbers.
@@ -33,7 +33,7 @@ impl Table {
         ensures value { titles result.now ≡ (table_of self.now).facts }
         ensures len { length result.now ≡ length (table_of self.now).facts }
     {
-        &self.facts[0..self.fact_count]
+        self.facts.as_slice()
     }
 
     /// The jobs, in the order of their lines.
@@ -41,7 +41,7 @@ impl Table {
         ensures value { rows_of result.now ≡ (table_of self.now).jobs }
         ensures names { job_titles result.now ≡ job_names (table_of self.now).jobs }
     {
-        &self.jobs[0..self.job_count]
+        self.jobs.as_slice()
     }
 
     /// The number of the fact of this name.
@@ -66,30 +66,18 @@ impl Table {
         ensures bound { IfOk result (λ k. k < length (table_of self.now).jobs) }
     {
         let name = Name::read(field, at)?;
-        match self.find_job(name.text()) {
-            Some(number) => Ok(number as u8),
-            None => Err(TextFault::UnknownName(at)),
-        }
+        let number = self
+            .find_job(name.text())
+            .ok_or(TextFault::UnknownName(at))?;
+        // A table has at most 128 jobs: the proof says that the number fits, and no refusal is needed.
+        Ok(number as u8)
     }
 
     /// The job of this number, from 0; past the last, one of empty states.
     pub fn job(&self, number: u8) -> Job
         ensures value { job_of result ≡ job_at (table_of self.now) number }
     {
-        self.job_in_row(number as usize)
-    }
-
-    fn job_in_row(&self, at: usize) -> Job
-        ensures value { job_of result ≡ job_at (table_of self.now) at }
-    {
-        if at < self.job_count {
-            return self.jobs[at].job;
-        }
-        let precondition = State::empty();
-        let effect = State::empty();
-        Job {
-            precondition,
-            effect,
-        }
+        let row = self.jobs.as_slice().get(usize::from(number));
+        row.map_or_else(Job::empty, |row| row.job)
     }
 }

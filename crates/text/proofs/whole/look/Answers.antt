@@ -1,10 +1,21 @@
-use Rattle.std.proofs.Common.{sym, subst}
-use Rattle.text.specs.Looks.{Looks}
-use Rattle.text.proofs.Outcomes.{looks_so}
+use Rattle.std.proofs.Common.{◌≡◌, Ok, Err, arith}
+use Rattle.std.proofs.lemmas.Grind.{common_steps}
+use Rattle.text.specs.declared.fault.TextFault.TheVariants.{Unended}
+use Rattle.text.specs.Looks.{looked}
+use Rattle.text.proofs.Outcomes.{looks_of}
 use Rattle.text.proofs.whole.look.Goals as goal
+
+pub returns-in_err-at : goal.returns-in_err-at
+returns-in_err-at c =
+    let is : c.from_residual.result ≡ looked c.args.text.now = grind (arith, common_steps) in
+    record { value = is; means = looks_of _ _ is }
+
+pub returns-then-is_some_and : goal.returns-then-is_some_and
+returns-then-is_some_and c =
+    let is : Err (Unended c.loop-b.at.line) ≡ looked c.args.text.now = grind (arith, common_steps) in
+    record { value = is; means = looks_of _ _ is }
 
 pub returns : goal.returns
 returns c =
-    let s = c.args.text.now in
-    let is = c.pass_over.ensures.value in
-    record { value = is; means = subst (Looks s) (sym is) (looks_so s) }
+    let is : Ok tt ≡ looked c.args.text.now = grind (arith, common_steps) in
+    record { value = is; means = looks_of _ _ is }

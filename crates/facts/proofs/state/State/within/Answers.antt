@@ -1,13 +1,12 @@
+use Rattle.std.proofs.Common.{arith}
+use Rattle.std.proofs.lemmas.Grind.{common_steps}
 use Rattle.std.proofs.lemmas.Bool.Decides.{same_from_decides}
 use Rattle.facts.specs.States.{within}
 use Rattle.facts.proofs.Tests.{within_decides}
-use Rattle.facts.proofs.Scans.{decides_when, within_scan}
 use Rattle.facts.proofs.state.State.within.Goals as goal
 
-pub returns : goal.returns
-returns c =
-    let s = c.args.self.now in
+pub returns-clause-value : goal.returns-clause-value
+returns-clause-value c =
+    let s = c.args.self.now.marks in
     let n = c.args.count in
-    let r = c.none_from.result in
-    let d = within_scan n s.marks r s.size (decides_when r c.none_from.ensures.facts) in
-    record { value = same_from_decides r (within n s.marks) d (within_decides n s.marks); means = d }
+    same_from_decides _ (within n s) (grind (arith, common_steps)) (within_decides n s)

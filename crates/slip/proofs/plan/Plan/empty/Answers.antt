@@ -1,9 +1,10 @@
-use Rattle.std.proofs.Common.{◌∙◌}
+use Rattle.std.proofs.Common.{length, sym, ap, ◌∙◌}
 use Rattle.facts.specs.States.{nothing}
-use Rattle.lists.specs.Models.{list_of, listed}
-use Rattle.text.proofs.Undoing.{same_ok}
+use Rattle.lists.specs.Models.{Listed, list_of}
 use Rattle.slip.proofs.Plans.{good_empty}
 use Rattle.slip.proofs.plan.Plan.empty.Goals as goal
 
-pub invariant_of-result-clause-good : goal.invariant_of-result-clause-good
-invariant_of-result-clause-good c = ∣ good_empty (list_of c.in-Ok.list) 0 nothing (same_ok _ _ (c.in-Ok.ensures.value ∙ (λ i. listed 0 (c.empty.ensures.value i) (c.empty-2.ensures.value i)))) ∣₁
+pub invariant_of-result : goal.invariant_of-result
+invariant_of-result c =
+    let e = c.no_list.ensures.value in
+    record { paired = ap length c.over.ensures.value ∙ sym (ap (λ (l : Listed). length l.jobs) e); good = ∣ good_empty (list_of c.no_list.result) 0 nothing e ∣₁ }

@@ -1,11 +1,7 @@
-use Rattle.std.proofs.Common.{◌≡◌, ◌-◌, take, ap, ◌∙◌, arith}
-use Rattle.table.specs.Rows.{rows_of, job_names}
+use Rattle.std.proofs.Common.{ap, ◌∙◌}
+use Rattle.table.specs.Rows.{job_titles}
 use Rattle.table.proofs.Storing.{names_same}
 use Rattle.table.proofs.table.Table.jobs.Goals as goal
 
-pub returns : goal.returns
-returns c =
-    let t = c.args.self.now in
-    let same : t.job_count - 0 ≡ t.job_count = omega arith in
-    let all = ap (λ n. rows_of (take n t.jobs)) same in
-    record { value = all; names = names_same (take (t.job_count - 0) t.jobs) ∙ ap job_names all }
+pub returns-clause-names : goal.returns-clause-names
+returns-clause-names c = ap job_titles c.as_slice.ensures.value ∙ names_same c.args.self.now.jobs.items

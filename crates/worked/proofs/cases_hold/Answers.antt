@@ -1,5 +1,0 @@
-use Rattle.std.proofs.Common.{refl}
-use Rattle.worked.proofs.cases_hold.Goals as goal
-
-pub returns : goal.returns
-returns c = record { cases = refl }

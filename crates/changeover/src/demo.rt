@@ -1,6 +1,6 @@
 //! The changeover of one hut: its table, a list that is good, its jobs carried out, and a list that is not good.
 use crate::quit::Quit;
-use crate::show::{state_text, world_text};
+use crate::show::{Literals, Signs};
 use crate::tables::print_table;
 use facts::{Job, State, World, meets};
 use lists::{Failure, JobList, first_failure};
@@ -51,40 +51,32 @@ impl Hut {
         }
         Some(list)
     }
+
+    /// The literals of a state or a world of the hut.
+    fn literals<'a, S: Signs>(&'a self, signs: &'a S) -> Literals<'a, S> {
+        Literals::of(&self.table, signs)
+    }
 }
 
 pub(crate) fn run(rt: &HostRuntime) -> Result<(), Quit> {
-    let Some(hut) = Hut::built_in() else {
-        return Err("the built-in table is refused".into());
-    };
-    print_hut(rt, &hut)?;
-    if judge(rt, &hut, ["sweep", "open_gas"])? {
-        carry_out(rt, &hut, ["sweep", "open_gas"])?;
-    }
-    let _good = judge(rt, &hut, ["open_gas", "sweep"])?;
-    Ok(())
-}
-
-fn print_hut(rt: &HostRuntime, hut: &Hut) -> Result<(), Quit> {
-    let heap = rt.alloc();
+    let hut = Hut::built_in().ok_or("the built-in table is refused")?;
     print_table(rt, &hut.table)?;
-    let opening = state_text(heap, &hut.table, &hut.opening)?;
-    let goal = state_text(heap, &hut.table, &hut.goal)?;
-    println!(rt; "opening {opening}")?;
-    println!(rt; "goal {goal}")?;
+    println!(rt; "opening {}", hut.literals(&hut.opening))?;
+    println!(rt; "goal {}", hut.literals(&hut.goal))?;
+    let names = ["sweep", "open_gas"];
+    if judge(rt, &hut, names)? {
+        carry_out(rt, &hut, names)?;
+    }
+    judge(rt, &hut, ["open_gas", "sweep"])?;
     Ok(())
 }
 
 /// Tells whether the list of these jobs is good, and else what fails first and in which world.
 fn judge(rt: &HostRuntime, hut: &Hut, names: [&str; 2]) -> Result<bool, Quit> {
-    let Some(list) = hut.list(names) else {
-        return Err("the built-in list is refused".into());
-    };
-    let Ok(mut example) = World::new(&[]) else {
-        return Err("the empty world is refused".into());
-    };
+    let list = hut.list(names).ok_or("the built-in list is refused")?;
+    let mut example = World::new(&[]).map_err(|_| "the empty world is refused")?;
     let [first, second] = names;
-    println!(rt; "")?;
+    println!(rt)?;
     println!(rt; "list {first}, {second}")?;
     match first_failure(&list, &mut example) {
         None => {
@@ -92,30 +84,25 @@ fn judge(rt: &HostRuntime, hut: &Hut, names: [&str; 2]) -> Result<bool, Quit> {
             return Ok(true);
         }
         Some(Failure::Job(place)) => {
-            let name = if place == 1 { first } else { second };
+            let at = place.checked_sub(1).ok_or("there is no job 0")?;
+            let name = names.get(at).ok_or("the built-in list lacks a job")?;
             println!(rt; "not good: job {place}, {name}, fails in this world")?;
         }
         Some(Failure::Goal) => println!(rt; "not good: the goal fails in this world")?,
     }
-    print_world(rt, hut, &example)?;
+    println!(rt; "world {}", hut.literals(&example))?;
     Ok(false)
 }
 
 /// Carries the jobs out in turn on a world in which only `free` holds.
 fn carry_out(rt: &HostRuntime, hut: &Hut, names: [&str; 2]) -> Result<(), Quit> {
-    let Ok(mut world) = World::new(&[true, false, false]) else {
-        return Err("the built-in world is refused".into());
-    };
-    print_world(rt, hut, &world)?;
+    let mut world = World::new(&[true, false, false]).map_err(|_| "the built-in world is refused")?;
+    println!(rt; "world {}", hut.literals(&world))?;
     for name in names {
-        let Some(job) = hut.job(name) else {
-            return Err("the built-in table lacks a job".into());
-        };
-        let Ok(()) = world.carry(&job) else {
-            return Err("a built-in job is refused".into());
-        };
+        let job = hut.job(name).ok_or("the built-in table lacks a job")?;
+        world.carry(&job).map_err(|_| "a built-in job is refused")?;
         println!(rt; "carried {name}")?;
-        print_world(rt, hut, &world)?;
+        println!(rt; "world {}", hut.literals(&world))?;
     }
     let met = if meets(&world, &hut.goal) {
         "met"
@@ -123,11 +110,5 @@ fn carry_out(rt: &HostRuntime, hut: &Hut, names: [&str; 2]) -> Result<(), Quit> 
         "not met"
     };
     println!(rt; "the goal is {met}")?;
-    Ok(())
-}
-
-fn print_world(rt: &HostRuntime, hut: &Hut, world: &World) -> Result<(), Quit> {
-    let facts = world_text(rt.alloc(), &hut.table, world)?;
-    println!(rt; "world {facts}")?;
     Ok(())
 }

@@ -8,22 +8,23 @@ use text::whole::MAX_BYTES;
 /// The bytes of the file, or of standard input where the path is "-", but at most one more than a text may have.
 /// An input that cannot be read is told of.
 pub(crate) fn read(rt: &HostRuntime, path: &str) -> Result<Vec<u8>, Quit> {
-    match read_some(rt, path) {
-        Ok(text) => Ok(text),
-        Err(fault) => {
-            eprintln!(rt; "changeover: {path}: {fault}")?;
-            Err(Quit::Told)
-        }
+    read_path(rt, path).or_else(|fault| {
+        eprintln!(rt; "changeover: {path}: {fault}")?;
+        Err(Quit::Told)
+    })
+}
+
+fn read_path(rt: &HostRuntime, path: &str) -> io::Result<Vec<u8>> {
+    if path == "-" {
+        read_from(rt, rt.stdin())
+    } else {
+        read_from(rt, File::open(rt, path)?)
     }
 }
 
-fn read_some(rt: &HostRuntime, path: &str) -> io::Result<Vec<u8>> {
+fn read_from(rt: &HostRuntime, input: impl Read + Drop) -> io::Result<Vec<u8>> {
     let mut text = Vec::new(rt.alloc());
-    let limit = MAX_BYTES as u64 + 1;
-    if path == "-" {
-        let _count = rt.stdin().take(limit).read_to_end(&mut text)?;
-    } else {
-        let _count = File::open(rt, path)?.take(limit).read_to_end(&mut text)?;
-    }
+    // The most bytes that a text has, and one: a constant that fits.
+    input.take(MAX_BYTES as u64 + 1).read_to_end(&mut text)?;
     Ok(text)
 }

@@ -37,31 +37,47 @@ fn main(rt: HostRuntime) -> ExitCode {
     }
 }
 
-fn run(rt: &HostRuntime) -> Result<(), Quit> {
-    let mut args = env::args(rt)?;
-    let _program = args.next();
-    let Some(command) = args.next() else {
-        return usage(rt);
-    };
-    match command.as_str() {
-        "table" => match (args.next(), args.next()) {
-            (Some(path), None) => tables::run(rt, path.as_str()),
-            _ => Err("table takes one file; see: changeover help".into()),
-        },
-        "check" => match (args.next(), args.next(), args.next()) {
-            (Some(table), Some(slip), None) => checks::run(rt, table.as_str(), slip.as_str()),
-            _ => Err("check takes two files; see: changeover help".into()),
-        },
-        "demo" => demo::run(rt),
-        "help" => usage(rt),
-        other => {
-            eprintln!(rt; "changeover: no command {other}; see: changeover help")?;
-            Err(Quit::Told)
+/// What the program is asked for.
+#[derive(Drop)]
+enum Command {
+    Table(String),
+    Check { table: String, slip: String },
+    Demo,
+    Help,
+}
+
+impl Command {
+    /// The command that the arguments give; without any, help.
+    fn from_args(rt: &HostRuntime) -> Result<Command, Quit> {
+        let mut args = env::args(rt)?;
+        let Some(name) = args.nth(1) else {
+            return Ok(Command::Help);
+        };
+        match name.as_str() {
+            "table" => match (args.next(), args.next()) {
+                (Some(table), None) => Ok(Command::Table(table)),
+                _ => Err("table takes one file; see: changeover help".into()),
+            },
+            "check" => match (args.next(), args.next(), args.next()) {
+                (Some(table), Some(slip), None) => Ok(Command::Check { table, slip }),
+                _ => Err("check takes two files; see: changeover help".into()),
+            },
+            "demo" => Ok(Command::Demo),
+            "help" => Ok(Command::Help),
+            other => {
+                eprintln!(rt; "changeover: no command {other}; see: changeover help")?;
+                Err(Quit::Told)
+            }
         }
     }
 }
 
-fn usage(rt: &HostRuntime) -> Result<(), Quit> {
-    print!(rt; "{USAGE}")?;
-    Ok(())
+fn run(rt: &HostRuntime) -> Result<(), Quit> {
+    // The commands are closed: an enum and a match, and no table of functions.
+    match Command::from_args(rt)? {
+        Command::Table(table) => tables::run(rt, &table),
+        Command::Check { table, slip } => checks::run(rt, &table, &slip),
+        Command::Demo => demo::run(rt),
+        Command::Help => Ok(print!(rt; "{USAGE}")?),
+    }
 }

@@ -1,5 +1,4 @@
 //! Why the program ends with status 1.
-use std::alloc::AllocError;
 use std::io;
 
 /// A reason to end with status 1.
@@ -13,12 +12,6 @@ pub(crate) enum Quit {
 
 impl From<io::Error> for Quit {
     fn from(fault: io::Error) -> Quit {
-        Quit::Failed(fault.into())
-    }
-}
-
-impl From<AllocError> for Quit {
-    fn from(fault: AllocError) -> Quit {
         Quit::Failed(fault.into())
     }
 }

@@ -1,77 +1,104 @@
 //! A refused text told: the refusal, the line at fault, and marks under the field.
 use crate::quit::Quit;
-use crate::sentences::sentence;
-use std::alloc::{AllocError, Global};
+use crate::sentences::Fault;
+use std::fmt;
 use text::{Lines, Refusal};
 
-const TAB: u8 = 0x09;
+const TAB: u8 = b'\t';
 
-/// Prints the refusal of a text after these words, and then the line and field at fault.
-pub(crate) fn tell(
+/// What was read of a text, or the end of the program once its refusal is told after these words.
+pub(crate) fn accepted<T, F: Fault>(
     rt: &HostRuntime,
     words: &str,
     text: &[u8],
-    refusal: Refusal,
-) -> Result<(), Quit> {
-    let number = refusal.number;
-    let line = refusal.line;
-    let field = refusal.field;
-    let cause = sentence(number);
-    println!(rt; "{words} {number} at line {line}, field {field}: {cause}")?;
-    if let Some(bytes) = line_at(text, line) {
-        let shown = plain(rt.alloc(), bytes)?;
-        let marks = marks(rt.alloc(), bytes, field)?;
-        println!(rt; "{shown}")?;
-        println!(rt; "{marks}")?;
+    read: Result<T, F>,
+) -> Result<T, Quit> {
+    match read {
+        Ok(value) => Ok(value),
+        Err(fault) => {
+            tell(rt, words, text, fault)?;
+            Err(Quit::Told)
+        }
+    }
+}
+
+/// Prints the refusal of a text after these words, and then the line and field at fault.
+fn tell(rt: &HostRuntime, words: &str, text: &[u8], fault: impl Fault) -> Result<(), Quit> {
+    let Refusal {
+        number,
+        line,
+        field,
+    } = fault.into();
+    println!(rt;
+        "{words} {number} at line {line}, field {field}: {}",
+        fault.sentence()
+    )?;
+    if let Some(line) = line_at(text, line) {
+        println!(rt; "{}", Plain(line))?;
+        println!(rt; "{}", Marks { line, field })?;
     }
     Ok(())
 }
 
 /// The line of this number, from 1; there is no line 0.
 fn line_at(text: &[u8], number: u32) -> Option<&[u8]> {
-    if number == 0 {
-        return None;
-    }
-    let mut lines = Lines::of(text);
-    for _ in 1..number {
-        let _earlier = lines.next_line()?;
-    }
-    lines.next_line()
+    let earlier = usize::try_from(number.checked_sub(1)?).ok()?;
+    Lines::of(text).nth(earlier)
 }
 
 /// The line, with "?" for each byte that no text may have.
-fn plain(heap: Global, line: &[u8]) -> Result<String, AllocError> {
-    let mut shown = String::new(heap);
-    for b in line {
-        match *b {
-            TAB | 0x20..=0x7E => shown.push(char::from(*b))?,
-            _ => shown.push('?')?,
+#[derive(Clone, Copy)]
+struct Plain<'a>(&'a [u8]);
+
+impl fmt::Display for Plain<'_> {
+    fn fmt<W: fmt::Write>(&self, f: &mut fmt::Formatter<W>) -> fmt::Result {
+        for b in self.0 {
+            f.write_char(match *b {
+                TAB | b' '..=b'~' => char::from(*b),
+                _ => '?',
+            })?;
         }
+        Ok(())
     }
-    Ok(shown)
 }
 
 /// Marks that stand under the field of this number, from 1, or under the whole line for field 0. A tab stays a tab.
-fn marks(heap: Global, line: &[u8], field: u32) -> Result<String, AllocError> {
-    let mut marks = String::new(heap);
-    let mut at: u32 = 1;
-    let mut marked = false;
-    for b in line {
-        if *b == TAB {
-            if at == field {
-                break;
-            }
-            marks.push('\t')?;
-            at = at.saturating_add(1);
-        } else if at == field || field == 0 {
-            marks.push('^')?;
-            marked = true;
-        } else {
-            marks.push(' ')?;
+#[derive(Clone, Copy)]
+struct Marks<'a> {
+    line: &'a [u8],
+    field: u32,
+}
+
+impl fmt::Display for Marks<'_> {
+    fn fmt<W: fmt::Write>(&self, f: &mut fmt::Formatter<W>) -> fmt::Result {
+        if self.field == 0 {
+            return carets(f, self.line);
         }
+        for (number, field) in (1..).zip(self.line.split(|b| *b == TAB)) {
+            if number == self.field {
+                return carets(f, field);
+            }
+            under(f, field, ' ')?;
+            f.write_char('\t')?;
+        }
+        // The line has no such field: the caret stands after it.
+        f.write_char('^')
     }
-    if !marked {
-        marks.push('^')?;
+}
+
+/// A caret under each byte but a tab, and one at least.
+fn carets<W: fmt::Write>(f: &mut fmt::Formatter<W>, bytes: &[u8]) -> fmt::Result {
+    under(f, bytes, '^')?;
+    if bytes.iter().all(|b| *b == TAB) {
+        f.write_char('^')?;
     }
-    Ok(marks)
+    Ok(())
+}
+
+/// The mark under each byte, but a tab under a tab.
+fn under<W: fmt::Write>(f: &mut fmt::Formatter<W>, bytes: &[u8], mark: char) -> fmt::Result {
+    for b in bytes {
+        f.write_char(if *b == TAB { '\t' } else { mark })?;
+    }
+    Ok(())
 }

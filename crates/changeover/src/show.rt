@@ -1,48 +1,64 @@
 //! Names, states and worlds as text: literals in rising fact number.
 use facts::{FactReader, Mark, State, World};
 use names::Name;
-use std::alloc::{AllocError, Global};
+use std::fmt;
 use std::str::from_utf8;
 use table::Table;
 
 /// The name as text. The names of a table are ASCII.
 pub(crate) fn name_text(name: &Name) -> &str {
-    match from_utf8(name.text()) {
-        Ok(text) => text,
-        Err(_) => "?",
-    }
+    from_utf8(name.text()).unwrap_or("?")
 }
 
-/// The state's literals, or "." where it has none.
-pub(crate) fn state_text(heap: Global, table: &Table, state: &State) -> Result<String, AllocError> {
-    let mut text = String::new(heap);
-    for (fact, row) in table.facts().iter().enumerate() {
-        match state.mark(fact) {
-            Mark::Unnamed => {}
-            Mark::Holds => push_literal(&mut text, "+", &row.name)?,
-            Mark::Fails => push_literal(&mut text, "-", &row.name)?,
+/// What is shown as literals, at most one of each fact.
+pub(crate) trait Signs {
+    /// The sign of the fact's literal, if there is one.
+    fn sign(&self, fact: usize) -> Option<char>;
+}
+
+impl Signs for State {
+    fn sign(&self, fact: usize) -> Option<char> {
+        match self.mark(fact) {
+            Mark::Unnamed => None,
+            Mark::Holds => Some('+'),
+            Mark::Fails => Some('-'),
         }
     }
-    if text.len() == 0 {
-        text.push_str(".")?;
-    }
-    Ok(text)
 }
 
-/// Every fact of the world with its sign.
-pub(crate) fn world_text(heap: Global, table: &Table, world: &World) -> Result<String, AllocError> {
-    let mut text = String::new(heap);
-    for (fact, row) in table.facts().iter().enumerate() {
-        let sign = if world.holds(fact) { "+" } else { "-" };
-        push_literal(&mut text, sign, &row.name)?;
+impl Signs for World {
+    fn sign(&self, fact: usize) -> Option<char> {
+        Some(if self.holds(fact) { '+' } else { '-' })
     }
-    Ok(text)
 }
 
-fn push_literal(text: &mut String, sign: &str, name: &Name) -> Result<(), AllocError> {
-    if text.len() > 0 {
-        text.push_str(" ")?;
+/// The literals of a state or a world by the names of a table's facts, or "." where there are none.
+#[derive(Drop)]
+pub(crate) struct Literals<'a, S> {
+    table: &'a Table,
+    signs: &'a S,
+}
+
+impl<'a, S: Signs> Literals<'a, S> {
+    pub(crate) fn of(table: &'a Table, signs: &'a S) -> Literals<'a, S> {
+        Literals { table, signs }
     }
-    text.push_str(sign)?;
-    text.push_str(name_text(name))
+}
+
+impl<S: Signs> fmt::Display for Literals<'_, S> {
+    fn fmt<W: fmt::Write>(&self, f: &mut fmt::Formatter<W>) -> fmt::Result {
+        let facts = self.table.facts().iter().enumerate();
+        let mut literals = facts.filter_map(|(fact, row)| {
+            let sign = self.signs.sign(fact)?;
+            Some((sign, name_text(&row.name)))
+        });
+        let Some((sign, name)) = literals.next() else {
+            return f.write_char('.');
+        };
+        write!(f, "{sign}{name}")?;
+        for (sign, name) in literals {
+            write!(f, " {sign}{name}")?;
+        }
+        Ok(())
+    }
 }

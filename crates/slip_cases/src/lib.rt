@@ -11,6 +11,7 @@ mod tests {
     use table::Table;
 
     // The number, line and field of a refusal; or 0, the number of jobs and 0.
+    // Numbers in place of a Result: each of the many cases is one short line, to be read beside docs/REFUSALS.md.
     type Outcome = (u8, u32, u32);
 
     // The table of one hut.
@@ -55,23 +56,18 @@ mod tests {
         heap: Global,
         first: &str,
         lines: &str,
-        count: u32,
+        count: usize,
         last: &str,
     ) -> Result<String, AllocError> {
-        let mut text = String::new(heap);
-        text.push_str(first)?;
-        for _ in 0..count {
-            text.push_str(lines)?;
-        }
-        text.push_str(last)?;
-        Ok(text)
+        let repeated = lines.repeat(heap, count)?;
+        format!(in heap; "{first}{repeated}{last}")
     }
 
     // Slips of no opening and no goal, each with some lines again and again, and then the last lines.
     fn check_tall(
         rt: &(impl Abort + AllocGlobal),
         table: &str,
-        cases: &[(&str, u32, &str, Outcome)],
+        cases: &[(&str, usize, &str, Outcome)],
     ) -> Result<(), Fail> {
         let table = Table::read(table.as_bytes())?;
         let mut work = Work::new();
@@ -645,12 +641,10 @@ mod tests {
     fn the_last_fact_and_job(rt: HostRuntime) -> Result<(), Fail> {
         let mut text = String::new(rt.alloc());
         for i in 0..256u32 {
-            let line = format!(in rt.alloc(); "N\tn{i}\n")?;
-            text.push_str(line.as_str())?;
+            writeln!(text, "N\tn{i}")?;
         }
         for i in 0..127u32 {
-            let line = format!(in rt.alloc(); "D\tn{i}\t+n0\t-n0\n")?;
-            text.push_str(line.as_str())?;
+            writeln!(text, "D\tn{i}\t+n0\t-n0")?;
         }
         text.push_str("D\tlast\t+n254\t-n255\n")?;
         check_all(
@@ -685,6 +679,7 @@ mod tests {
     fn free_after_a_refusal(rt: HostRuntime) -> Result<(), Fail> {
         let table = Table::read(HUT.as_bytes())?;
         let mut work = Work::new();
+        let free = b"B\t+clean\nG\t+clean +gas\nA\topen_gas\n";
         let refused: &[(&str, Outcome)] = &[
             ("B\t.\nG\t.\nF\t+gas\nX\n", (4, 4, 1)),
             ("B\t.\nG\t.\nF\t-gas\n", (21, 4, 0)),
@@ -701,7 +696,6 @@ mod tests {
                 "{}",
                 *slip
             );
-            let free = b"B\t+clean\nG\t+clean +gas\nA\topen_gas\n";
             assert_eq!(rt; judge(&table, free, &mut work), (0, 1, 0), "{}", *slip);
         }
         Ok(())

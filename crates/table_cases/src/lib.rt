@@ -7,16 +7,22 @@ mod tests {
     use std::process::Abort;
     use std::test::Fail;
     use table::Table;
+    use text::Refusal;
 
     // The number, line and field of a refusal; or 0, the number of facts and the number of jobs.
+    // Numbers in place of a Result: each of the many cases is one short line, to be read beside docs/REFUSALS.md.
     type Outcome = (u8, u32, u32);
 
     fn read(text: &[u8]) -> Outcome {
         match Table::read(text) {
             Ok(table) => (0, small(table.fact_count()), small(table.job_count())),
             Err(fault) => {
-                let refusal = fault.refusal();
-                (refusal.number, refusal.line, refusal.field)
+                let Refusal {
+                    number,
+                    line,
+                    field,
+                } = fault.refusal();
+                (number, line, field)
             }
         }
     }
@@ -34,9 +40,9 @@ mod tests {
     // As many lines of this tag, each with a name of its own and then the same fields.
     fn many(heap: Global, tag: &str, count: u32, fields: &str) -> Result<String, AllocError> {
         let mut text = String::new(heap);
+        // Each number is part of a name, and indexes nothing.
         for i in 0..count {
-            let line = format!(in heap; "{tag}\tn{i}{fields}\n")?;
-            text.push_str(line.as_str())?;
+            writeln!(text, "{tag}\tn{i}{fields}")?;
         }
         Ok(text)
     }

@@ -4,6 +4,7 @@ use crate::refused::accepted;
 use crate::show::name_text;
 use crate::{input, tables};
 use slip::{Plan, Work, check};
+use std::fmt;
 use table::Table;
 
 pub(crate) fn run(rt: &HostRuntime, table_path: &str, slip_path: &str) -> Result<(), Quit> {
@@ -17,11 +18,21 @@ pub(crate) fn run(rt: &HostRuntime, table_path: &str, slip_path: &str) -> Result
     print_plan(rt, &table, &plan)
 }
 
-/// Prints how many jobs there are, as "accepted: 2 jobs", and then each with its place, from 1.
+/// What is said of an accepted plan, as "accepted: 2 jobs".
+#[derive(Clone, Copy)]
+pub(crate) struct Accepted<'a>(pub(crate) &'a Plan);
+
+impl fmt::Display for Accepted<'_> {
+    fn fmt<W: fmt::Write>(&self, f: &mut fmt::Formatter<W>) -> fmt::Result {
+        let count = self.0.numbers().len();
+        let noun = if count == 1 { "job" } else { "jobs" };
+        write!(f, "accepted: {count} {noun}")
+    }
+}
+
+/// Prints how many jobs there are, and then each with its place, from 1.
 fn print_plan(rt: &HostRuntime, table: &Table, plan: &Plan) -> Result<(), Quit> {
-    let count = plan.numbers().len();
-    let noun = if count == 1 { "job" } else { "jobs" };
-    println!(rt; "accepted: {count} {noun}")?;
+    println!(rt; "{}", Accepted(plan))?;
     for (place, number) in (1..).zip(plan.numbers()) {
         println!(rt; "  {place} {}", job_name(table, *number))?;
     }

@@ -1,10 +1,14 @@
-//! The changeover of one hut: its table, a list that is good, its jobs carried out, and a list that is not good.
+//! The changeover of one hut: its table, a list that is good, slips of that list, its jobs carried out, and a list that
+//! is not good.
+use crate::checks::Accepted;
 use crate::quit::Quit;
+use crate::refused::tell;
 use crate::show::{Literals, Signs};
 use crate::tables::print_table;
 use facts::{Job, State, World, meets};
 use lists::{Failure, JobList, first_failure};
 use names::read_state;
+use slip::{Work, check};
 use table::Table;
 use text::Place;
 
@@ -14,6 +18,14 @@ const TABLE: &[u8] =
 const OPENING: &[u8] = b"+free -gas";
 
 const GOAL: &[u8] = b"+clean +gas";
+
+/// A slip of the good list.
+const SLIP: &[u8] = b"B\t+free -gas\nG\t+clean +gas\n\
+    W\t+free -gas\nS\t+clean +gas\nC\nF\t.\nA\tsweep\nF\t+free\nA\topen_gas\n";
+
+/// The same, but its W line does not say that the gas is shut, which `sweep` needs.
+const GAS_OMITTED: &[u8] = b"B\t+free -gas\nG\t+clean +gas\n\
+    W\t+free\nS\t+clean +gas\nC\nF\t.\nA\tsweep\nF\t+free\nA\topen_gas\n";
 
 /// The hut's table, and the opening and goal of its changeover.
 #[derive(Clone, Copy)]
@@ -65,6 +77,8 @@ pub(crate) fn run(rt: &HostRuntime) -> Result<(), Quit> {
     println!(rt; "goal {}", hut.literals(&hut.goal))?;
     let names = ["sweep", "open_gas"];
     if judge(rt, &hut, names)? {
+        check_slip(rt, &hut, SLIP)?;
+        check_slip(rt, &hut, GAS_OMITTED)?;
         carry_out(rt, &hut, names)?;
     }
     judge(rt, &hut, ["open_gas", "sweep"])?;
@@ -92,6 +106,15 @@ fn judge(rt: &HostRuntime, hut: &Hut, names: [&str; 2]) -> Result<bool, Quit> {
     }
     println!(rt; "world {}", hut.literals(&example))?;
     Ok(false)
+}
+
+/// Tells whether the slip is accepted, and else its refusal.
+fn check_slip(rt: &HostRuntime, hut: &Hut, slip: &[u8]) -> Result<(), Quit> {
+    let mut work = Work::new();
+    match check(&hut.table, slip, &mut work) {
+        Ok(plan) => Ok(println!(rt; "slip {}", Accepted(&plan))?),
+        Err(fault) => tell(rt, "refused", slip, fault),
+    }
 }
 
 /// Carries the jobs out in turn on a world in which only `free` holds.

@@ -23,7 +23,12 @@ pub(crate) fn accepted<T, F: Fault>(
 }
 
 /// Prints the refusal of a text after these words, and then the line and field at fault.
-fn tell(rt: &HostRuntime, words: &str, text: &[u8], fault: impl Fault) -> Result<(), Quit> {
+pub(crate) fn tell(
+    rt: &HostRuntime,
+    words: &str,
+    text: &[u8],
+    fault: impl Fault,
+) -> Result<(), Quit> {
     let Refusal {
         number,
         line,

@@ -24,7 +24,7 @@ impl Fault for TextFault {
                 "a name is a letter and then letters, digits or underscores, 24 bytes at most"
             }
             TextFault::NoSign(_) => "a literal begins with + or -",
-            TextFault::UnknownName(_) => "this name is not known",
+            TextFault::UnknownName(_) => "no fact or job has this name",
             TextFault::FactTwice(_) => "the state names a fact twice",
         }
     }
@@ -49,7 +49,8 @@ impl Fault for SlipFault {
             SlipFault::Text(fault) => fault.sentence(),
             SlipFault::WrongTag(_) => WRONG_TAG,
             SlipFault::WrongFields(_) => WRONG_FIELDS,
-            SlipFault::OutOfOrder(_) | SlipFault::Missing(_) => OUT_OF_ORDER,
+            SlipFault::OutOfOrder(_) => OUT_OF_ORDER,
+            SlipFault::Missing(_) => "the text ends before its B line or its G line",
             SlipFault::TooDeep(_) => "the derivation is more than 80 lines deep",
             SlipFault::EndsEarly(_) => "the text ends before the derivation is complete",
             SlipFault::LineAfter(_) => "the derivation is complete before this line",
@@ -67,9 +68,9 @@ impl Fault for SlipFault {
                 "a fact of this frame is named in the opening or the end of its premise"
             }
             SlipFault::TooManyJobs(_) => "there are more than 64 jobs",
-            SlipFault::OpeningDiffers | SlipFault::EndDiffers => {
-                "the opening or the end of the derivation is not the state of this line"
-            }
+            SlipFault::OpeningDiffers =>
+                "the opening of the derivation is not the state of this line",
+            SlipFault::EndDiffers => "the end of the derivation is not the state of this line",
         }
     }
 }

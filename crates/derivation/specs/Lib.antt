@@ -1,3 +1,2 @@
 pub mod Models
 pub mod Readers
-pub mod Drafts

@@ -6,12 +6,11 @@
 
 pub mod area;
 mod bar;
-pub mod draft;
 mod ends;
 mod reader;
 pub mod reading;
 mod tags;
 
 pub use area::Work;
-pub use draft::Draft;
+pub use lists::Draft;
 pub use reading::read_slip;

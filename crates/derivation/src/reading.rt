@@ -5,15 +5,15 @@ ghost use Rattle.table.specs.Models.{table_of};
 ghost use Rattle.verdict.specs.Verdicts.{agree, judge, judge_under};
 ghost use Rattle.derivation.specs.Models.{bar_of, barred};
 ghost use Rattle.derivation.specs.Readers.{ends_of};
-ghost use Rattle.derivation.specs.Drafts.{draft_of};
+ghost use Rattle.verdict.specs.Drafts.{draft_of};
 
 use crate::area::Work;
 use crate::bar::Bar;
-use crate::draft::Draft;
 use crate::ends::Ends;
 use crate::reader::Reader;
 use crate::reader::derivations::Derivations;
 use facts::State;
+use lists::Draft;
 use table::Table;
 use verdict::{Header, SlipFault};
 

@@ -8,7 +8,7 @@ use Rattle.facts.specs.declared.mark.Mark.{Mark}
 use Rattle.facts.specs.declared.mark.Mark.TheVariants.{Unnamed}
 use Rattle.facts.specs.States.{State, mark, blend, every}
 use Rattle.facts.specs.Worlds.{World, Meets, unmet, unmet_one}
-use Rattle.facts.specs.Scans.{Everywhere, FailsSomewhere, AllMet}
+use Rattle.facts.specs.Scans.{Everywhere, NotEverywhere, AllMet}
 use Rattle.facts.proofs.Marks.{mark_unmet, sign_named, agrees_true, true_agrees}
 use Rattle.facts.proofs.Tests.{every_at, at_every, named_below}
 use Rattle.facts.proofs.Meanings.{length_unmet}
@@ -42,7 +42,7 @@ module _ (f : Mark → Mark → Bool) (e : f Unnamed Unnamed ≡ true) (P Q : St
       past : (i : ℕ) → 256 ≤ i → f (mark P i) (mark Q i) ≡ true
       past i l = (λ d. f (get_or_past P i Unnamed (omega arith) d) (get_or_past Q i Unnamed (omega arith) d)) ∙ e
 
-  pub every_is : (r : Bool) → MatchBool r (Everywhere f P Q) (FailsSomewhere f P Q) → r ≡ every f P Q
+  pub every_is : (r : Bool) → MatchBool r (Everywhere f P Q) (NotEverywhere f P Q) → r ≡ every f P Q
   every_is true h = sym (everywhere_decides.1 h)
   every_is false (i, l, k) = same_from_decides false (every f P Q) (decides_when false (λ h. both_ways _ k (h i l))) everywhere_decides
 

@@ -13,8 +13,8 @@ abbrev pub Everywhere : (Mark → Mark → Bool) → State → State → Type 0
 Everywhere f P Q = (i : ℕ) → i < 256 → f (mark P i) (mark Q i) ≡ true
 
 -- the test f fails of P and Q at a fact
-abbrev pub FailsSomewhere : (Mark → Mark → Bool) → State → State → Type 0
-FailsSomewhere f P Q = (i : ℕ) × (i < 256) × (f (mark P i) (mark Q i) ≡ false)
+abbrev pub NotEverywhere : (Mark → Mark → Bool) → State → State → Type 0
+NotEverywhere f P Q = (i : ℕ) × (i < 256) × (f (mark P i) (mark Q i) ≡ false)
 
 -- each literal of s is true in w
 abbrev pub AllMet : World → State → Type 0

@@ -7,7 +7,7 @@ use Rattle.lists.specs.Models.{Listed, list_of}
 use Rattle.table.specs.Tables.{Table}
 use Rattle.table.specs.Jobs.{job_at}
 use Rattle.verdict.specs.Verdicts.{Plan}
-use Rattle.derivation.specs.declared.draft.Draft.{Draft}
+use Rattle.lists.specs.declared.draft.Draft.{Draft}
 use Rattle.slip.specs.declared.plan.Plan as code
 
 -- the list of a draft's states and the jobs of these numbers

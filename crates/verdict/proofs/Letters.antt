@@ -27,7 +27,7 @@ one (a ∷ b ∷ fs) h = absurd (omega arith)
 one_field : (l : List ℕ) (b : ℕ) → get_or (fields l) 0 [] ≡ bare b → length (fields l) ≡ 1 → l ≡ bare b
 one_field l b e h = sym (join_parts 9 l) ∙ ap (join 9) (one (fields l) h ∙ ap (λ x. x ∷ []) e)
 
-two_fields : (l : List ℕ) (b : ℕ) → get_or (fields l) 0 [] ≡ bare b → length (fields l) ≡ 2 → l ≡ tagged b (get_or (fields l) 1 [])
+pub two_fields : (l : List ℕ) (b : ℕ) → get_or (fields l) 0 [] ≡ bare b → length (fields l) ≡ 2 → l ≡ tagged b (get_or (fields l) 1 [])
 two_fields l b e h = sym (join_parts 9 l) ∙ ap (join 9) (two (fields l) h ∙ ap (λ x. x ∷ get_or (fields l) 1 [] ∷ []) e)
 
 -- a line of as many fields as wanted

@@ -8,3 +8,4 @@ pub mod Literals
 pub mod Overs
 pub mod Lengths
 pub mod Good
+pub mod Proper

@@ -46,9 +46,9 @@ pub record Front (t : Table) (left : ℕ) (bar : State) (c d : Cursor) (a : Ends
   pub ends : length a.end ≡ 256
 
 -- a job that was found
-record JobNamed (t : Table) (f : List ℕ) (k : ℕ) : Type 0 where
-  name : f ≡ job_name t k
-  below : k < length t.jobs
+pub record JobNamed (t : Table) (f : List ℕ) (k : ℕ) : Type 0 where
+  pub name : f ≡ job_name t k
+  pub below : k < length t.jobs
 
 located : (t : Table) (f n : List ℕ) (i k : ℕ) → f ≡ n → found_at n (job_names t.jobs) ≡ Some i → i ≡ k → JobNamed t f k
 located t f n i k e h same =
@@ -56,7 +56,7 @@ located t f n i k e h same =
     let there : found.place ≡ k = omega (arith, found.counted) in
     record { name = e ∙ sym found.is ∙ ap (λ m. get_or (job_names t.jobs) m []) there; below = omega (arith, found.below, length-map t.jobs (λ (r : Row). r.name)) }
 
-number_read : (t : Table) (f : List ℕ) (at : Place) (k : ℕ) → job_number t f at ≡ Ok k → JobNamed t f k
+pub number_read : (t : Table) (f : List ℕ) (at : Place) (k : ℕ) → job_number t f at ≡ Ok k → JobNamed t f k
 number_read t f at k h =
     let a = then_ok (name_field f at) (λ n. or_else (found_at n (job_names t.jobs)) (UnknownName at) (λ i. Ok i)) k h in
     let b = unless_ok (not (good_name f)) (BadName at) (λ _. Ok f) a.value a.first in

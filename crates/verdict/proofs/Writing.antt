@@ -57,7 +57,7 @@ behind c ls more L = record { line = c.line + length ls; rest = more; jobs = c.j
 abbrev ends : State → State → Ends
 ends O E = record { opening = O; end = E }
 
-tagged_fields : (b : ℕ) (f : List ℕ) → (b ≡ 9 → ⊥) → each plain_byte f ≡ true → fields (tagged b f) ≡ bare b ∷ f ∷ []
+pub tagged_fields : (b : ℕ) (f : List ℕ) → (b ≡ 9 → ⊥) → each plain_byte f ≡ true → fields (tagged b f) ≡ bare b ∷ f ∷ []
 tagged_fields b f n p = parts_join 9 (bare b) (f ∷ []) (n, tt) (tabless f p, tt)
 
 -- a test that comes out well
@@ -74,16 +74,16 @@ module _ (t : Table) (proper : ProperTable t) where
   pub good_job : (k : ℕ) → k < length t.jobs → good_name (job_name t k) ≡ true
   good_job k h = each_at good_name (job_names t.jobs) [] (and_parts (each good_name (job_names t.jobs)) (distinct_from [] (job_names t.jobs)) good_names).0 k (named k h)
 
-  number_found : (k : ℕ) (at : Place) → k < length t.jobs → job_number t (job_name t k) at ≡ Ok k
+  pub number_found : (k : ℕ) (at : Place) → k < length t.jobs → job_number t (job_name t k) at ≡ Ok k
   number_found k at h =
       let z : 0 + k ≡ k = omega arith in
       ap (λ v. then (unless (not v) (BadName at) (λ _. Ok (job_name t k))) (λ n. or_else (found_at n (job_names t.jobs)) (UnknownName at) (λ i. Ok i))) (good_job k h)
       ∙ ap (λ o. or_else o (UnknownName at) (λ i. Ok i)) (found_self [] (job_names t.jobs) (and_parts (each good_name (job_names t.jobs)) (distinct_from [] (job_names t.jobs)) good_names).1 0 k (named k h) ∙ ap Some z)
 
-  spelt : (at : Place) (f : List ℕ) (P : State) → Denotes t.facts f P → state_field t.facts at f ≡ Ok P
+  pub spelt : (at : Place) (f : List ℕ) (P : State) → Denotes t.facts f P → state_field t.facts at f ≡ Ok P
   spelt at f P d = field_spelt t.facts proper.facts proper.few at f P d
 
-  plain : (f : List ℕ) (P : State) → Denotes t.facts f P → each plain_byte f ≡ true
+  pub plain : (f : List ℕ) (P : State) → Denotes t.facts f P → each plain_byte f ≡ true
   plain f P d = field_plain t.facts proper.facts proper.few (place 0 0) f P d
 
   -- one rule line
@@ -157,7 +157,7 @@ module _ (t : Table) (proper : ProperTable t) where
       ∙ stands (ends (overridden O R) (overridden E R)) (c.line + 1 + length s.rest) (c.line + length ls) more (c.jobs ++ L) (c.jobs ++ L) (more_lines c.line (tagged 70 f) s.rest ls s.lines) refl
 
   -- lines of bytes that a line may have
-  tagged_lined : (b : ℕ) (f : List ℕ) → line_byte b ≡ true → each plain_byte f ≡ true → each line_byte (tagged b f) ≡ true
+  pub tagged_lined : (b : ℕ) (f : List ℕ) → line_byte b ≡ true → each plain_byte f ≡ true → each line_byte (tagged b f) ≡ true
   tagged_lined b f h p = (λ i. h i && each line_byte f) ∙ lined f p
 
   tree_lined : (x : Tree) (ls : List (List ℕ)) → SpeltLines t x ls → AllByRecursion (λ l. each line_byte l ≡ true) ls

@@ -4,3 +4,4 @@ pub mod Verdicts
 pub mod Grammar
 pub mod Slips
 pub mod Statements
+pub mod Drafts

@@ -8,12 +8,11 @@ ghost use Rattle.table.specs.Tables.{place};
 ghost use Rattle.verdict.specs.Verdicts.{with_number, header, finish};
 ghost use Rattle.derivation.specs.Readers.{cursor_of, Opened, Took, Says};
 
-use crate::draft::Draft;
 use crate::reader::Reader;
 use crate::tags::header_tag;
 use facts::State;
 use filled::Filled;
-use lists::MAX_JOBS;
+use lists::{Draft, MAX_JOBS};
 use names::read_state;
 use table::Table;
 use text::{Line, Numbered, TextFault};

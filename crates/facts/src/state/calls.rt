@@ -3,7 +3,7 @@ ghost use Rattle.std.specs.Prelude.{◌≡◌, Bool, not, Decides, MatchBool};
 ghost use Rattle.facts.specs.declared.mark.Mark.{Mark};
 ghost use Rattle.facts.specs.States.{mark, named, nothing, added, blend, covers, Covers, same, apart, Apart, within, Within, lowest, overridden, without, missing};
 ghost use Rattle.facts.specs.Models.{row, Leaves};
-ghost use Rattle.facts.specs.Scans.{Computes, Everywhere, FailsSomewhere};
+ghost use Rattle.facts.specs.Scans.{Computes, Everywhere, NotEverywhere};
 ghost use Rattle.facts.specs.Words.{Overridden, Without, Missing, OneMore, Lowest, WhereOk};
 
 use crate::mark::Mark;
@@ -127,7 +127,7 @@ impl State {
     /// Whether two states pass the test at every fact.
     fn all_pass<F: Fn(Mark, Mark) -> bool>(&self, other: &State, test: F) -> bool
         requires { F.IsAlwaysCallable test }
-        ensures facts { (f : Mark → Mark → Bool) → Computes (F.post test) f → MatchBool result (Everywhere f (row self.now) (row other.now)) (FailsSomewhere f (row self.now) (row other.now)) }
+        ensures facts { (f : Mark → Mark → Bool) → Computes (F.post test) f → MatchBool result (Everywhere f (row self.now) (row other.now)) (NotEverywhere f (row self.now) (row other.now)) }
     {
         self.marks
             .iter()

@@ -4,7 +4,7 @@ ghost use Rattle.facts.specs.Models.{row};
 ghost use Rattle.lists.specs.Models.{list_of};
 ghost use Rattle.table.specs.Models.{table_of};
 ghost use Rattle.verdict.specs.Statements.{PlanFacts};
-ghost use Rattle.derivation.specs.Drafts.{draft_of};
+ghost use Rattle.verdict.specs.Drafts.{draft_of};
 ghost use Rattle.slip.specs.Plans.{draft_list, plan_of};
 
 use crate::plan::Plan;

@@ -5,7 +5,7 @@ use Rattle.facts.proofs.Tests.{same_decides}
 use Rattle.table.specs.Models.{table_of}
 use Rattle.verdict.proofs.Places.{nothing_places}
 use Rattle.derivation.specs.Models.{bar_of, barred}
-use Rattle.derivation.specs.Drafts.{draft_of}
+use Rattle.verdict.specs.Drafts.{draft_of}
 use Rattle.derivation.proofs.Steps.{none_barred}
 use Rattle.derivation.proofs.reading.read_slip.Goals as goal
 

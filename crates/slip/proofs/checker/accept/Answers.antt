@@ -2,7 +2,7 @@ use Rattle.std.proofs.Common.{sym}
 use Rattle.facts.specs.Models.{row}
 use Rattle.table.specs.Models.{table_of}
 use Rattle.verdict.proofs.Good.{accepted_facts}
-use Rattle.slip.proofs.Tables.{proper}
+use Rattle.verdict.proofs.Proper.{proper}
 use Rattle.slip.proofs.checker.accept.Goals as goal
 
 pub of-requires : goal.of-requires

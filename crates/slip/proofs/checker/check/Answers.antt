@@ -3,7 +3,7 @@ use Rattle.table.specs.Models.{table_of}
 use Rattle.verdict.specs.Grammar.{AcceptsExactly}
 use Rattle.verdict.proofs.Accepting.{accepts_exactly}
 use Rattle.verdict.proofs.Good.{accepts_good}
-use Rattle.slip.proofs.Tables.{proper}
+use Rattle.verdict.proofs.Proper.{proper}
 use Rattle.slip.proofs.checker.check.Goals as goal
 
 pub returns : goal.returns

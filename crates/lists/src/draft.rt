@@ -1,9 +1,9 @@
-//! What a slip says, once it is read to its end.
+//! What the text of a list or of a slip says of a list.
 ghost use Rattle.std.specs.Prelude.{◌≤◌, length};
 
+use crate::list::MAX_JOBS;
 use facts::State;
 use filled::Filled;
-use lists::MAX_JOBS;
 
 /// The opening, the goal, and the numbers of the jobs in the table.
 #[derive(Clone, Copy)]

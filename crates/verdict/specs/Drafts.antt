@@ -2,7 +2,7 @@
 use Rattle.facts.specs.Models.{row}
 use Rattle.table.specs.Tables.{Table}
 use Rattle.verdict.specs.Verdicts.{Plan, plan_from}
-use Rattle.derivation.specs.declared.draft.Draft.{Draft}
+use Rattle.lists.specs.declared.draft.Draft.{Draft}
 
 -- a draft over a table
 abbrev pub draft_of : Table → Draft → Plan

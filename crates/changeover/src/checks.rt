@@ -1,8 +1,8 @@
 //! The command `check`: the jobs of a slip that is accepted, or its refusal.
+use crate::input;
 use crate::quit::Quit;
 use crate::refused::accepted;
 use crate::show::name_text;
-use crate::{input, tables};
 use slip::{Plan, Work, check};
 use std::fmt;
 use table::Table;
@@ -11,11 +11,14 @@ pub(crate) fn run(rt: &HostRuntime, table_path: &str, slip_path: &str) -> Result
     if table_path == "-" && slip_path == "-" {
         return Err("only one of TABLE and SLIP can be standard input".into());
     }
-    let table = tables::read(rt, table_path)?;
+    let text = input::read(rt, table_path)?;
+    let table = Table::read(&text);
+    let table = accepted(rt, "table refused", &text, &table)?;
+    drop(text);
     let text = input::read(rt, slip_path)?;
     let mut work = Work::new();
-    let plan = accepted(rt, "refused", &text, check(&table, &text, &mut work))?;
-    print_plan(rt, &table, &plan)
+    let plan = check(table, &text, &mut work);
+    print_plan(rt, table, accepted(rt, "refused", &text, &plan)?)
 }
 
 /// What is said of an accepted plan, as "accepted: 2 jobs".

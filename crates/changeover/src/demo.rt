@@ -71,7 +71,10 @@ impl Hut {
 }
 
 pub(crate) fn run(rt: &HostRuntime) -> Result<(), Quit> {
-    let hut = Hut::built_in().ok_or("the built-in table is refused")?;
+    // `let else` and no `ok_or`: a hut holds a table, which each step by value copies whole.
+    let Some(hut) = Hut::built_in() else {
+        return Err("the built-in table is refused".into());
+    };
     print_table(rt, &hut.table)?;
     println!(rt; "opening {}", hut.literals(&hut.opening))?;
     println!(rt; "goal {}", hut.literals(&hut.goal))?;

@@ -2,21 +2,26 @@
 use crate::quit::Quit;
 use crate::sentences::Fault;
 use std::fmt;
+use std::str::from_utf8;
 use text::{Lines, Refusal};
 
 const TAB: u8 = b'\t';
 
+/// How many bytes of a line are written at once.
+const PIECE: usize = 64;
+
 /// What was read of a text, or the end of the program once its refusal is told after these words.
-pub(crate) fn accepted<T, F: Fault>(
+// It is lent and not handed on: a function that passes a table on by value clears and copies all its 78 KB again.
+pub(crate) fn accepted<'r, T, F: Fault>(
     rt: &HostRuntime,
     words: &str,
     text: &[u8],
-    read: Result<T, F>,
-) -> Result<T, Quit> {
+    read: &'r Result<T, F>,
+) -> Result<&'r T, Quit> {
     match read {
         Ok(value) => Ok(value),
         Err(fault) => {
-            tell(rt, words, text, fault)?;
+            tell(rt, words, text, *fault)?;
             Err(Quit::Told)
         }
     }
@@ -57,13 +62,7 @@ struct Plain<'a>(&'a [u8]);
 
 impl fmt::Display for Plain<'_> {
     fn fmt<W: fmt::Write>(&self, f: &mut fmt::Formatter<W>) -> fmt::Result {
-        for b in self.0 {
-            f.write_char(match *b {
-                TAB | b' '..=b'~' => char::from(*b),
-                _ => '?',
-            })?;
-        }
-        Ok(())
+        write_kept(f, self.0, Kept::Shown, b'?')
     }
 }
 
@@ -83,7 +82,7 @@ impl fmt::Display for Marks<'_> {
             if number == self.field {
                 return carets(f, field);
             }
-            under(f, field, ' ')?;
+            write_kept(f, field, Kept::Tabs, b' ')?;
             f.write_char('\t')?;
         }
         // The line has no such field: the caret stands after it.
@@ -93,17 +92,47 @@ impl fmt::Display for Marks<'_> {
 
 /// A caret under each byte but a tab, and one at least.
 fn carets<W: fmt::Write>(f: &mut fmt::Formatter<W>, bytes: &[u8]) -> fmt::Result {
-    under(f, bytes, '^')?;
+    write_kept(f, bytes, Kept::Tabs, b'^')?;
     if bytes.iter().all(|b| *b == TAB) {
         f.write_char('^')?;
     }
     Ok(())
 }
 
-/// The mark under each byte, but a tab under a tab.
-fn under<W: fmt::Write>(f: &mut fmt::Formatter<W>, bytes: &[u8], mark: char) -> fmt::Result {
-    for b in bytes {
-        f.write_char(if *b == TAB { '\t' } else { mark })?;
+/// Which bytes of a line are written as they are.
+#[derive(Clone, Copy)]
+enum Kept {
+    /// Those that a text may have.
+    Shown,
+    Tabs,
+}
+
+impl Kept {
+    fn keeps(self, b: u8) -> bool {
+        match self {
+            Kept::Shown => matches!(b, TAB | b' '..=b'~'),
+            Kept::Tabs => b == TAB,
+        }
+    }
+}
+
+/// The bytes that are kept, and `other` in place of each that is not. They are written a piece at a time: a line may have a
+/// million.
+fn write_kept<W: fmt::Write>(
+    f: &mut fmt::Formatter<W>,
+    bytes: &[u8],
+    kept: Kept,
+    other: u8,
+) -> fmt::Result {
+    for piece in bytes.chunks(PIECE) {
+        let mut row = [other; PIECE];
+        for (place, b) in row.iter_mut().zip(piece) {
+            if kept.keeps(*b) {
+                *place = *b;
+            }
+        }
+        let row = row.get(..piece.len()).unwrap_or(&row);
+        f.write_str(from_utf8(row).unwrap_or("?"))?;
     }
     Ok(())
 }

@@ -6,14 +6,9 @@ use crate::show::{Literals, name_text};
 use table::Table;
 
 pub(crate) fn run(rt: &HostRuntime, path: &str) -> Result<(), Quit> {
-    let table = read(rt, path)?;
-    print_table(rt, &table)
-}
-
-/// The table in a file; a refusal is told.
-pub(crate) fn read(rt: &HostRuntime, path: &str) -> Result<Table, Quit> {
     let text = input::read(rt, path)?;
-    accepted(rt, "table refused", &text, Table::read(&text))
+    let table = Table::read(&text);
+    print_table(rt, accepted(rt, "table refused", &text, &table)?)
 }
 
 /// Prints each fact with its number, and each job with what it needs and what it sets.

@@ -1,5 +1,6 @@
 -- Where the code's reader stands, and what a call on it reads.
 use Rattle.std.specs.Prelude.{◌≡◌, ℕ, List, [], ◌∷◌, Some, None, Ok, Err, Option, Result}
+use Rattle.filled.specs.Items.{items_of}
 use Rattle.facts.specs.Models.{row}
 use Rattle.text.specs.declared.fault.TextFault.{TextFault}
 use Rattle.text.specs.declared.line.Line.{Line}
@@ -16,7 +17,7 @@ abbrev pub ends_of : code_ends.Ends → Ends
 ends_of e = record { opening = row e.opening; end = row e.end }
 
 abbrev pub cursor_of : code_reader.Reader → Cursor
-cursor_of r = record { line = r.lines.number; rest = lines r.lines.rest; jobs = r.jobs.items }
+cursor_of r = record { line = r.lines.number; rest = lines r.lines.rest; jobs = items_of r.jobs }
 
 -- the reader of the slip s, at its first line; or the fault of the whole
 abbrev pub Opened : List ℕ → Result code_reader.Reader TextFault → Type 0

@@ -14,6 +14,15 @@ mod tests {
         state
     }
 
+    // By value, as a caller may pass on what it uses again.
+    fn facts_of(world: World) -> usize {
+        world.count()
+    }
+
+    fn jobs_of(list: JobList) -> usize {
+        list.jobs().len()
+    }
+
     #[test]
     fn fact_255(rt: HostRuntime) {
         let mut state = State::empty();
@@ -29,6 +38,17 @@ mod tests {
         assert!(rt; state.overridden(&only(255, true)).same(&only(255, true)));
         assert!(rt; state.without(&only(255, true)).same(&State::empty()));
         assert!(rt; only(255, true).missing(&state).same(&state));
+    }
+
+    #[test]
+    fn copied_and_used_again(rt: HostRuntime) -> Result<(), Fail> {
+        let world = World::new(&[true; 3])?;
+        assert_eq!(rt; facts_of(world), 3);
+        assert_eq!(rt; facts_of(world), world.count());
+        let list = JobList::new(3, State::empty(), State::empty())?;
+        assert_eq!(rt; jobs_of(list), 0);
+        assert_eq!(rt; jobs_of(list), list.jobs().len());
+        Ok(())
     }
 
     #[test]

@@ -36,7 +36,7 @@ blended_is f P Q R p q r h =
 
 -- a test of two states
 module _ (f : Mark → Mark → Bool) (e : f Unnamed Unnamed ≡ true) (P Q : State) (p : length P ≡ 256) (q : length Q ≡ 256) where
-  everywhere_decides : Decides (every f P Q) (Everywhere f P Q)
+  pub everywhere_decides : Decides (every f P Q) (Everywhere f P Q)
   everywhere_decides = (λ h i _. every_at f e P Q h i, λ h. at_every f e P Q (λ i. ⊎_elim (h i) (past i) (cases_lt i 256)))
     where
       past : (i : ℕ) → 256 ≤ i → f (mark P i) (mark Q i) ≡ true

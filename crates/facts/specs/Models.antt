@@ -1,5 +1,6 @@
 -- What stands in the code's values, in the words of the definitions.
 use Rattle.std.specs.Prelude.{◌≡◌, ℕ, ◌<◌, ◌≤◌, Bool, false, List, length, Ok, Err, Result, slice_index_or}
+use Rattle.filled.specs.Items.{items_of}
 use Rattle.facts.specs.declared.state.State as code_state
 use Rattle.facts.specs.declared.job.Job as code_job
 use Rattle.facts.specs.declared.world.World as code_world
@@ -17,10 +18,10 @@ job_of j = record { precondition = row j.precondition; effect = row j.effect }
 
 -- a world is its number of facts and which of them hold
 abbrev pub size_of : code_world.World → ℕ
-size_of w = length w.facts.items
+size_of w = length (items_of w.facts)
 
 abbrev pub seen : code_world.World → World
-seen w = λ i. slice_index_or w.facts.items i false
+seen w = λ i. slice_index_or (items_of w.facts) i false
 
 -- an answer, with its value in the words of the definitions
 abbrev pub mapped_ok : {X Y E : Type 0} → (X → Y) → Result X E → Result Y E

@@ -1,6 +1,5 @@
 -- The text of a bare list: every text is read, or gets its one refusal.
 use Rattle.std.specs.Prelude.{◌≡◌, ℕ, ◌+◌, Bool, true, false, not, List, [], ◌∷◌, ◌++◌, length, Some, None, Ok, Err, Option, Result, ◌==◌, nat_le, slice_index_or}
-use Rattle.filled.specs.Items.{Items}
 use Rattle.facts.specs.declared.state.State as code_state
 use Rattle.facts.specs.States.{State}
 use Rattle.facts.specs.Models.{row}
@@ -91,10 +90,6 @@ list_lines t ls =
 -- the look over the whole text, and then its lines
 abbrev pub read_listing : Table → List ℕ → Result Plan ListingFault
 read_listing t s = then_in Text (looked s) (λ _. list_lines t (lines s))
-
--- the numbers in the code's row
-abbrev pub items_of : Items ℕ → List ℕ
-items_of f = f.items
 
 -- what a call that takes the next line's state answers, and what of the text is then left
 abbrev pub TookState : Table → Part → Left → Result code_state.State ListingFault → Left → Type 0

@@ -1,12 +1,13 @@
 //! A list read from its text, line by line.
 ghost use Rattle.std.specs.Prelude.{◌≡◌, ◌≤◌, [], length, IfOk};
+ghost use Rattle.filled.specs.Items.{items_of};
 ghost use Rattle.facts.specs.Models.{mapped_ok};
 ghost use Rattle.text.specs.Chains.{Kept};
 ghost use Rattle.text.specs.Lines.{lines};
 ghost use Rattle.table.specs.Models.{table_of};
 ghost use Rattle.verdict.specs.Drafts.{draft_of};
 ghost use Rattle.listing.specs.Grammar.{ListsExactly};
-ghost use Rattle.listing.specs.Listings.{TookState, items_of, job_line, job_lines, read_listing};
+ghost use Rattle.listing.specs.Listings.{TookState, job_line, job_lines, read_listing};
 
 use crate::fault::ListingFault;
 use crate::part::{Part, expect};
@@ -54,7 +55,7 @@ fn next_state(table: &Table, wanted: Part, lines: &mut Numbered) -> Result<State
 /// The numbers of the jobs of the E lines that are left.
 fn read_jobs(table: &Table, left: Numbered) -> Result<Filled<u8, MAX_JOBS>, ListingFault>
     ensures value { mapped_ok items_of result ≡ job_lines (table_of table.now) [] left.entry.number (lines left.entry.rest) }
-    ensures few { IfOk result (λ f. length f.items ≤ 64) }
+    ensures few { IfOk result (λ f. length (items_of f) ≤ 64) }
 {
     let mut numbers = Filled::over([0; MAX_JOBS]);
     for line in left {
@@ -69,8 +70,8 @@ fn add_job(
     line: &Line,
     numbers: &mut Filled<u8, MAX_JOBS>,
 ) -> Result<(), ListingFault>
-    ensures after { Kept result (job_line (table_of table.now) numbers.old.items line.now.number line.now.text.now) numbers.new.items }
-    ensures few { length numbers.old.items ≤ 64 → length numbers.new.items ≤ 64 }
+    ensures after { Kept result (job_line (table_of table.now) (items_of numbers.old) line.now.number line.now.text.now) (items_of numbers.new) }
+    ensures few { length (items_of numbers.old) ≤ 64 → length (items_of numbers.new) ≤ 64 }
 {
     expect(Part::Job, line)?;
     if numbers.is_full() {

@@ -1,6 +1,7 @@
 -- What the check of a list answers, from its verdict and the world that comes with it.
 use Rattle.std.proofs.lemmas.List.{length-map}
 use Rattle.std.proofs.Common.{◌≡◌, ◌≤◌, length, None, Ok, Err, sym, subst, arith}
+use Rattle.filled.specs.Items.{items_of}
 use Rattle.facts.specs.declared.world.World.{World}
 use Rattle.facts.specs.Models.{job_of, seen}
 use Rattle.facts.specs.Words.{Exactly}
@@ -19,7 +20,7 @@ module _ (l : JobList) where
   inside = fits_parts l.count (list_of l).opening (list_of l).goal (list_of l).jobs l.inside
 
   short : length (list_of l).jobs ≤ 64
-  short = omega (arith, length-map l.jobs.items job_of, l.short)
+  short = omega (arith, length-map (items_of l.jobs) job_of, l.short)
 
   pub known_by : (v : Verdict) → v ≡ verdict_on (list_of l) → Known (list_of l).facts v
   known_by v e = subst (Known (list_of l).facts) (sym e) (known_fact (list_of l).facts (list_of l).opening (list_of l).goal (list_of l).jobs inside short)

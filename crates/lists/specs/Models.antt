@@ -1,5 +1,6 @@
 -- What stands in the code's lists, and what each call on one gives.
 use Rattle.std.specs.Prelude.{◌≡◌, ℕ, cond, ◌&&◌, List, [], ◌∷◌, ◌++◌, length, Ok, Err, Option, Result, nat_le, nat_lt}
+use Rattle.filled.specs.Items.{items_of}
 use Rattle.facts.specs.declared.world.World as code
 use Rattle.facts.specs.States.{State, within}
 use Rattle.facts.specs.Worlds.{World, Job, job_within}
@@ -19,7 +20,7 @@ pub record Listed : Type 0 where
   pub jobs : List Job
 
 abbrev pub list_of : JobList → Listed
-list_of l = record { facts = l.count; opening = row l.opening; goal = row l.goal; jobs = jobs_of l.jobs.items }
+list_of l = record { facts = l.count; opening = row l.opening; goal = row l.goal; jobs = jobs_of (items_of l.jobs) }
 
 -- the list of no jobs: refused with more than 256 facts, then where a state names a fact not below n
 abbrev pub listed : ℕ → State → State → Result Listed ListFault

@@ -1,5 +1,6 @@
 //! What the text of a list or of a slip says of a list.
 ghost use Rattle.std.specs.Prelude.{◌≤◌, length};
+ghost use Rattle.filled.specs.Items.{items_of};
 
 use crate::list::MAX_JOBS;
 use facts::State;
@@ -11,5 +12,5 @@ pub struct Draft {
     pub opening: State,
     pub goal: State,
     pub numbers: Filled<u8, MAX_JOBS>,
-    ghost few: { length numbers.items ≤ 64 },
+    ghost few: { length (items_of numbers) ≤ 64 },
 }

@@ -12,7 +12,7 @@ all_each p [] = refl
 all_each p (x ∷ xs) = ap (λ r. p x && r) (all_each p xs)
 
 -- two names are the same exactly when they have the same bytes
-same_decides : (xs ys : List ℕ) → Decides (same_name xs ys) (xs ≡ ys)
+pub same_decides : (xs ys : List ℕ) → Decides (same_name xs ys) (xs ≡ ys)
 same_decides xs ys = compares_Decides same_name (search rules) xs ys
 
 pub same_true : (xs ys : List ℕ) → same_name xs ys ≡ true → xs ≡ ys

@@ -1,17 +1,22 @@
 //! State fields, literal by literal.
 ghost use Rattle.std.specs.Prelude.{◌≡◌, true, map, length, IfOk};
-ghost use Rattle.facts.specs.States.{within};
+ghost use Rattle.facts.specs.States.{nothing, within};
 ghost use Rattle.facts.specs.Models.{row, mapped_ok};
-ghost use Rattle.names.specs.Literals.{sign_of, name_of, literal, state_field};
+ghost use Rattle.text.specs.Chains.{Kept};
+ghost use Rattle.text.specs.Lines.{parts};
+ghost use Rattle.names.specs.Literals.{sign_of, name_of, literal, literals, state_field};
 ghost use Rattle.names.specs.Spelling.{SpellsExactly};
 
 use crate::name::calls::is_name;
 use crate::name::{Named, find};
 use facts::{LiteralFault, State};
-use text::{Place, TextFault};
+use text::{Place, TextFault, cut};
 
 /// The field of the empty state.
 const EMPTY: &[u8] = b".";
+
+/// What parts two literals.
+const SPACE: u8 = b' ';
 
 /// The state in a field, over facts whose rows have these names, or the first literal's fault.
 pub fn read_state<R: Named>(field: &[u8], facts: &[R], at: Place) -> Result<State, TextFault>
@@ -22,20 +27,32 @@ pub fn read_state<R: Named>(field: &[u8], facts: &[R], at: Place) -> Result<Stat
     if field == EMPTY {
         return Ok(State::empty());
     }
-    field.split(|b| *b == b' ').try_fold(
-        State::empty(),
-        |state, literal| with_literal(state, literal, facts, at),
-    )
+    read_literals(field, facts, at)
 }
 
-/// The state with one literal more, or the literal's fault.
-fn with_literal<R: Named>(
-    mut state: State,
+/// The literals in turn.
+fn read_literals<R: Named>(field: &[u8], facts: &[R], at: Place) -> Result<State, TextFault>
+    ensures value { mapped_ok row result ≡ literals (map R.Named.title facts.now) at (parts 32 field.now) nothing }
+{
+    let mut state = State::empty();
+    let mut rest = Some(field);
+    // A loop, and the state changed in place: `try_fold` hands it on by value, in half as much time again and more.
+    while let Some(s) = rest {
+        let (literal, more) = cut(s, SPACE);
+        add_literal(literal, facts, at, &mut state)?;
+        rest = more;
+    }
+    Ok(state)
+}
+
+/// One literal more, or its fault.
+fn add_literal<R: Named>(
     l: &[u8],
     facts: &[R],
     at: Place,
-) -> Result<State, TextFault>
-    ensures value { mapped_ok row result ≡ literal (map R.Named.title facts.now) at l.now (row state) }
+    state: &mut State,
+) -> Result<(), TextFault>
+    ensures after { Kept result (literal (map R.Named.title facts.now) at l.now (row state.old)) (row state.new) }
 {
     let (sign, name) = sign_and_name(l);
     if !is_name(name) {
@@ -43,11 +60,11 @@ fn with_literal<R: Named>(
     }
     let holds = sign.ok_or(TextFault::NoSign(at))?;
     let fact = find(facts, name).ok_or(TextFault::UnknownName(at))?;
-    state.add(fact, holds).map_err(|fault| match fault {
-        LiteralFault::FactNamed => TextFault::FactTwice(at),
-        LiteralFault::FactPast => TextFault::UnknownName(at),
-    })?;
-    Ok(state)
+    match state.add(fact, holds) {
+        Ok(()) => Ok(()),
+        Err(LiteralFault::FactNamed) => Err(TextFault::FactTwice(at)),
+        Err(LiteralFault::FactPast) => Err(TextFault::UnknownName(at)),
+    }
 }
 
 /// The sign that a literal begins with, if any (yes for +), and its name.

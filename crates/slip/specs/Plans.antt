@@ -1,5 +1,6 @@
 -- What stands in the code's plans.
 use Rattle.std.specs.Prelude.{ℕ, Bool, false, ◌||◌, ◌⊎◌, List, [], ◌∷◌, map, length}
+use Rattle.filled.specs.Items.{items_of}
 use Rattle.facts.specs.States.{mark, named, Named, nothing}
 use Rattle.facts.specs.Worlds.{Job}
 use Rattle.facts.specs.Models.{row}
@@ -16,10 +17,10 @@ with_numbers t d ks = record { facts = length t.facts; opening = row d.opening; 
 
 -- the list of a draft
 abbrev pub draft_list : Table → Draft → Listed
-draft_list t d = with_numbers t d d.numbers.items
+draft_list t d = with_numbers t d (items_of d.numbers)
 
 abbrev pub plan_of : code.Plan → Plan
-plan_of p = record { facts = (list_of p.list).facts; opening = (list_of p.list).opening; goal = (list_of p.list).goal; jobs = (list_of p.list).jobs; numbers = p.numbers.items }
+plan_of p = record { facts = (list_of p.list).facts; opening = (list_of p.list).opening; goal = (list_of p.list).goal; jobs = (list_of p.list).jobs; numbers = items_of p.numbers }
 
 -- the plan of no jobs and empty states over no facts
 abbrev pub no_plan : Plan

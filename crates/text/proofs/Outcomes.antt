@@ -92,7 +92,7 @@ lines_lined (b ∷ s) h =
     go k true e g = (refl, k)
     go k false e g = onto_lined b (lines s) (sym (λ d. e d || line_byte b) ∙ g) k
 
-looks_so : (s : List ℕ) → Looks s (looked s)
+pub looks_so : (s : List ℕ) → Looks s (looked s)
 looks_so s = long (ltb 1048576 (length s)) refl
   where
     last : (d : Cursor) → length s ≤ 1048576 → passed start s ≡ Ok d → Passed start d s → (x : Bool) → d.fresh ≡ x → Looks s (cond x (Ok tt) (Err (Unended d.line)))

@@ -1,5 +1,6 @@
 //! The look over a whole text, before any line is read.
-ghost use Rattle.std.specs.Prelude.{◌≡◌, ◌+◌, ◌≤◌, IfOk};
+ghost use Rattle.std.specs.Prelude.{◌≡◌, ◌+◌, ◌≤◌};
+ghost use Rattle.text.specs.Chains.{Kept};
 ghost use Rattle.text.specs.Looks.{kind_of, placed, looked, Looks};
 
 use crate::fault::{Place, TextFault};
@@ -19,7 +20,7 @@ pub fn look(text: &[u8]) -> Result<(), TextFault>
     let mut at = Place { line: 1, field: 1 };
     // A loop: over `try_fold` the proof did not close.
     for b in text {
-        at = after(at, *b)?;
+        pass(&mut at, *b)?;
     }
     if text.last().is_some_and(|b| *b != NEWLINE) {
         return Err(TextFault::Unended(at.line));
@@ -27,22 +28,21 @@ pub fn look(text: &[u8]) -> Result<(), TextFault>
     Ok(())
 }
 
-/// Where the byte after b stands, if b stands here.
-fn after(at: Place, b: u8) -> Result<Place, TextFault>
-    requires { (at.line ≤ 1048576) × (at.field ≤ 1048576) }
-    ensures value { result ≡ placed (kind_of b) at }
-    ensures near { IfOk result (λ p. (p.line ≤ at.line + 1) × (p.field ≤ at.field + 1)) }
+/// Goes on from the byte b, which stands here, to where the next one stands.
+// In place: a place handed back inside a `Result` is written to memory and read back for each byte, in twice the time.
+fn pass(at: &mut Place, b: u8) -> Result<(), TextFault>
+    requires { (at.old.line ≤ 1048576) × (at.old.field ≤ 1048576) }
+    ensures after { Kept result (placed (kind_of b) at.old) at.new }
+    ensures near { (at.new.line ≤ at.old.line + 1) × (at.new.field ≤ at.old.field + 1) }
 {
     match b {
-        NEWLINE => Ok(Place {
-            line: at.line + 1,
-            field: 1,
-        }),
-        TAB => Ok(Place {
-            field: at.field + 1,
-            ..at
-        }),
-        0x20..=0x7E => Ok(at),
-        _ => Err(TextFault::BadByte(at)),
+        NEWLINE => {
+            at.line += 1;
+            at.field = 1;
+        }
+        TAB => at.field += 1,
+        0x20..=0x7E => {}
+        _ => return Err(TextFault::BadByte(*at)),
     }
+    Ok(())
 }

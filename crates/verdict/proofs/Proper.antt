@@ -2,6 +2,7 @@
 use Rattle.std.proofs.Common.{◌≡◌, List, [], ◌∷◌, length, ap, ◌∙◌, arith}
 use Rattle.std.proofs.lemmas.List.{length-map}
 use Rattle.std.specs.List.{AllByRecursion}
+use Rattle.filled.specs.Items.{items_of}
 use Rattle.names.specs.Models.{spelling}
 use Rattle.table.specs.declared.fact_row.FactRow.{FactRow}
 use Rattle.table.specs.declared.job_row.JobRow.{JobRow}
@@ -16,5 +17,5 @@ full (r ∷ rs) = (record { precondition = r.job.precondition.size; effect = r.j
 
 pub proper : (t : Table) → ProperTable (table_of t)
 proper t =
-    let count : length (table_of t).facts ≡ length t.facts.items = length-map t.facts.items (λ (r : FactRow). spelling r.name) in
-    record { few = omega (arith, t.few_facts, count); facts = t.named; jobs = ap (λ n. proper_jobs n (table_of t).jobs) count ∙ t.able; places = full t.jobs.items }
+    let count : length (table_of t).facts ≡ length (items_of t.facts) = length-map (items_of t.facts) (λ (r : FactRow). spelling r.name) in
+    record { few = omega (arith, t.few_facts, count); facts = t.named; jobs = ap (λ n. proper_jobs n (table_of t).jobs) count ∙ t.able; places = full (items_of t.jobs) }

@@ -1,5 +1,6 @@
 //! The lines of a slip taken in turn, and its two states.
 ghost use Rattle.std.specs.Prelude.{◌≡◌, ◌<◌, [], length, slice_index_or};
+ghost use Rattle.filled.specs.Items.{items_of};
 ghost use Rattle.facts.specs.Models.{row, mapped_ok};
 ghost use Rattle.text.specs.Lines.{fields};
 ghost use Rattle.names.specs.Literals.{state_field};
@@ -45,7 +46,7 @@ impl<'a> Reader<'a> {
 
     /// One job more, where there is room for it.
     pub(crate) fn push(&mut self, number: u8)
-        requires { length self.old.jobs.items < 64 }
+        requires { length (items_of self.old.jobs) < 64 }
         ensures after { cursor_of self.new ≡ with_number (cursor_of self.old) number }
     {
         let Ok(()) = self.jobs.push(number) else {
@@ -77,7 +78,7 @@ impl<'a> Reader<'a> {
     pub(crate) fn draft(&self, opening: State, goal: State) -> Draft
         ensures opening { result.opening ≡ opening }
         ensures goal { result.goal ≡ goal }
-        ensures jobs { result.numbers.items ≡ (cursor_of self.now).jobs }
+        ensures jobs { items_of result.numbers ≡ (cursor_of self.now).jobs }
     {
         Draft {
             opening,

@@ -1,5 +1,6 @@
 //! A slip read line by line.
 ghost use Rattle.std.specs.Prelude.{◌≤◌, length};
+ghost use Rattle.filled.specs.Items.{items_of};
 
 pub(crate) mod derivations;
 mod jobs;
@@ -14,5 +15,5 @@ use text::Numbered;
 pub(crate) struct Reader<'a> {
     lines: Numbered<'a>,
     jobs: Filled<u8, MAX_JOBS>,
-    ghost few: { length jobs.items ≤ 64 },
+    ghost few: { length (items_of jobs) ≤ 64 },
 }

@@ -1,5 +1,6 @@
 //! Worlds: which facts hold.
 ghost use Rattle.std.specs.Prelude.{◌≤◌, length};
+ghost use Rattle.filled.specs.Items.{items_of};
 
 mod calls;
 
@@ -10,7 +11,7 @@ use filled::Filled;
 #[derive(Clone, Copy)]
 pub struct World {
     facts: Filled<bool, MAX_FACTS>,
-    ghost few: { length facts.items ≤ 256 },
+    ghost few: { length (items_of facts) ≤ 256 },
 }
 
 /// Why a world was not made.

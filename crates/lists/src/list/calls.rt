@@ -1,5 +1,6 @@
 //! Lists made, added to and asked.
 ghost use Rattle.std.specs.Prelude.{◌≡◌, ◌<◌, ◌≤◌, true, length};
+ghost use Rattle.filled.specs.Items.{items_of};
 ghost use Rattle.facts.specs.Worlds.{job_within};
 ghost use Rattle.facts.specs.Models.{row, job_of, mapped_ok, Leaves};
 ghost use Rattle.lists.specs.Lists.{jobs_of};
@@ -74,7 +75,7 @@ impl JobList {
 
     /// The job at the end, where there is room for it and it fits.
     fn store(&mut self, job: Job)
-        requires room { length self.old.jobs.items < 64 }
+        requires room { length (items_of self.old.jobs) < 64 }
         requires inside { job_within self.old.count (job_of job) ≡ true }
         ensures after { list_of self.new ≡ more (list_of self.old) (job_of job) }
     {

@@ -1,5 +1,6 @@
 //! Lists of jobs, each with the opening that it starts from and the goal that it should reach.
 ghost use Rattle.std.specs.Prelude.{◌≡◌, ◌≤◌, true, length};
+ghost use Rattle.filled.specs.Items.{items_of};
 ghost use Rattle.facts.specs.Models.{row};
 ghost use Rattle.lists.specs.Lists.{fits, jobs_of};
 
@@ -20,8 +21,8 @@ pub struct JobList {
     pub(crate) goal: State,
     pub(crate) jobs: Filled<Job, MAX_JOBS>,
     ghost few: { count ≤ 256 },
-    ghost short: { length jobs.items ≤ 64 },
-    ghost inside: { fits count (row opening) (row goal) (jobs_of jobs.items) ≡ true },
+    ghost short: { length (items_of jobs) ≤ 64 },
+    ghost inside: { fits count (row opening) (row goal) (jobs_of (items_of jobs)) ≡ true },
 }
 
 /// Why a list was not made, or a job not added to it.

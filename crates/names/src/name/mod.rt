@@ -1,5 +1,6 @@
 //! Names, and the search among rows that have one.
 ghost use Rattle.std.specs.Prelude.{◌≤◌, length};
+ghost use Rattle.filled.specs.Items.{items_of};
 
 pub(crate) mod calls;
 
@@ -13,5 +14,5 @@ pub const MAX_NAME: usize = 24;
 #[derive(Clone, Copy)]
 pub struct Name {
     bytes: Filled<u8, MAX_NAME>,
-    ghost short: { length bytes.items ≤ 24 },
+    ghost short: { length (items_of bytes) ≤ 24 },
 }

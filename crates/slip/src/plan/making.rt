@@ -1,5 +1,6 @@
 //! A plan made of what an accepted slip says.
 ghost use Rattle.std.specs.Prelude.{◌≡◌};
+ghost use Rattle.filled.specs.Items.{items_of};
 ghost use Rattle.facts.specs.Models.{row};
 ghost use Rattle.lists.specs.Models.{list_of};
 ghost use Rattle.table.specs.Models.{table_of};
@@ -15,7 +16,7 @@ use table::Table;
 impl Plan {
     /// The plan of a draft that is good.
     pub(crate) fn of(table: &Table, draft: &Draft) -> Plan
-        requires { PlanFacts (table_of table.now) (row draft.now.opening) (row draft.now.goal) draft.now.numbers.items }
+        requires { PlanFacts (table_of table.now) (row draft.now.opening) (row draft.now.goal) (items_of draft.now.numbers) }
         ensures value { plan_of result ≡ draft_of (table_of table.now) draft.now }
     {
         Plan {
@@ -27,7 +28,7 @@ impl Plan {
 
 /// The list of the draft's states and jobs.
 fn list_of(table: &Table, draft: &Draft) -> JobList
-    requires { PlanFacts (table_of table.now) (row draft.now.opening) (row draft.now.goal) draft.now.numbers.items }
+    requires { PlanFacts (table_of table.now) (row draft.now.opening) (row draft.now.goal) (items_of draft.now.numbers) }
     ensures value { list_of result ≡ draft_list (table_of table.now) draft.now }
 {
     let Ok(mut list) = JobList::new(table.fact_count(), draft.opening, draft.goal) else {

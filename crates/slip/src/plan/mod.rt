@@ -1,5 +1,6 @@
 //! Accepted plans.
 ghost use Rattle.std.specs.Prelude.{◌≡◌, length};
+ghost use Rattle.filled.specs.Items.{items_of};
 ghost use Rattle.lists.specs.Models.{list_of, GoodList};
 
 mod calls;
@@ -16,6 +17,6 @@ use lists::{JobList, MAX_JOBS};
 pub struct Plan {
     list: JobList,
     numbers: Filled<u8, MAX_JOBS>,
-    ghost paired: { length numbers.items ≡ length (list_of list).jobs },
+    ghost paired: { length (items_of numbers) ≡ length (list_of list).jobs },
     ghost good: { ∥ GoodList (list_of list) ∥₁ },
 }

@@ -1,5 +1,6 @@
 //! The table: its facts and its jobs.
 ghost use Rattle.std.specs.Prelude.{◌≡◌, ◌≤◌, true, length};
+ghost use Rattle.filled.specs.Items.{items_of};
 ghost use Rattle.names.specs.Names.{proper_names};
 ghost use Rattle.table.specs.Rows.{titles, rows_of, proper_jobs};
 
@@ -20,8 +21,8 @@ pub const MAX_TABLE_JOBS: usize = 128;
 pub struct Table {
     facts: Filled<FactRow, MAX_FACTS>,
     jobs: Filled<JobRow, MAX_TABLE_JOBS>,
-    ghost few_facts: { length facts.items ≤ 256 },
-    ghost few_jobs: { length jobs.items ≤ 128 },
-    ghost named: { proper_names (titles facts.items) ≡ true },
-    ghost able: { proper_jobs (length facts.items) (rows_of jobs.items) ≡ true },
+    ghost few_facts: { length (items_of facts) ≤ 256 },
+    ghost few_jobs: { length (items_of jobs) ≤ 128 },
+    ghost named: { proper_names (titles (items_of facts)) ≡ true },
+    ghost able: { proper_jobs (length (items_of facts)) (rows_of (items_of jobs)) ≡ true },
 }

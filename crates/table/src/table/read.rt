@@ -1,5 +1,6 @@
 //! A table read from its text, line by line.
 ghost use Rattle.std.specs.Prelude.{◌≡◌, ◌<◌, ◌≤◌, true, false, [], map, length, is_some, IfOk, slice_index_or};
+ghost use Rattle.filled.specs.Items.{items_of};
 ghost use Rattle.facts.specs.Worlds.{job_within};
 ghost use Rattle.facts.specs.Models.{job_of, mapped_ok};
 ghost use Rattle.text.specs.Lines.{fields};
@@ -32,8 +33,9 @@ impl Table {
     fn parse(text: &[u8]) -> Result<Table, TableFault>
         ensures value { mapped_ok table_of result ≡ read_table text.now }
     {
+        let lines = Numbered::of(text)?;
         let mut table = Table::empty();
-        for line in Numbered::of(text)? {
+        for line in lines {
             table.add_line(&line)?;
         }
         Ok(table)
@@ -101,8 +103,8 @@ impl Table {
 
     /// A fact at the end, where there is room for it and its name is new.
     fn store_fact(&mut self, row: FactRow)
-        requires room { length self.old.facts.items < 256 }
-        requires first { self.old.jobs.items ≡ [] }
+        requires room { length (items_of self.old.facts) < 256 }
+        requires first { items_of self.old.jobs ≡ [] }
         requires new { NewTo (spelling row.name) (table_of self.old).facts }
         ensures after { table_of self.new ≡ with_fact (table_of self.old) (spelling row.name) }
     {
@@ -113,9 +115,9 @@ impl Table {
 
     /// A job at the end, where there is room for it, its name is new, and it names facts of the table.
     fn store_job(&mut self, row: JobRow)
-        requires room { length self.old.jobs.items < 128 }
+        requires room { length (items_of self.old.jobs) < 128 }
         requires new { NewTo (spelling row.name) (job_names (table_of self.old).jobs) }
-        requires within { job_within (length self.old.facts.items) (row_of row).job ≡ true }
+        requires within { job_within (length (items_of self.old.facts)) (row_of row).job ≡ true }
         ensures after { table_of self.new ≡ with_job (table_of self.old) (row_of row) }
     {
         let Ok(()) = self.jobs.push(row) else {

@@ -5,8 +5,8 @@ use Rattle.text.specs.Looks.{looked}
 use Rattle.text.proofs.Outcomes.{looks_of}
 use Rattle.text.proofs.whole.look.Goals as goal
 
-pub returns-in_err-at : goal.returns-in_err-at
-returns-in_err-at c =
+pub returns-in_err-pass : goal.returns-in_err-pass
+returns-in_err-pass c =
     let is : c.from_residual.result ≡ looked c.args.text.now = grind (arith, common_steps) in
     record { value = is; means = looks_of _ _ is }
 

@@ -1,5 +1,6 @@
 use Rattle.std.proofs.Common.{length, ap, ◌∙◌, arith}
 use Rattle.std.proofs.lemmas.List.{length_push, map_push}
+use Rattle.filled.specs.Items.{items_of}
 use Rattle.filled.proofs.Pushed.{pushed}
 use Rattle.table.specs.Rows.{row_of, rows_of, proper_jobs}
 use Rattle.table.proofs.Storing.{jobs_push}
@@ -9,10 +10,10 @@ pub invariant_of-self : goal.invariant_of-self
 invariant_of-self c =
     let t = c.args.self.now in
     let r = c.args.row in
-    let e = pushed 128 t.jobs.items r c.push.result c.push.new.self.items c.push.ensures.after c.requires.room in
+    let e = pushed 128 (items_of t.jobs) r c.push.result (items_of c.push.new.self) c.push.ensures.after c.requires.room in
     record {
       few_facts = t.few_facts;
-      few_jobs = omega (arith, ap length e, length_push t.jobs.items r, c.requires.room);
+      few_jobs = omega (arith, ap length e, length_push (items_of t.jobs) r, c.requires.room);
       named = t.named;
-      able = ap (λ rs. proper_jobs (length t.facts.items) (rows_of rs)) e ∙ ap (proper_jobs (length t.facts.items)) (map_push row_of t.jobs.items r) ∙ jobs_push (length t.facts.items) (rows_of t.jobs.items) (row_of r) t.able c.requires.new.0 c.requires.new.1 c.requires.within;
+      able = ap (λ rs. proper_jobs (length (items_of t.facts)) (rows_of rs)) e ∙ ap (proper_jobs (length (items_of t.facts))) (map_push row_of (items_of t.jobs) r) ∙ jobs_push (length (items_of t.facts)) (rows_of (items_of t.jobs)) (row_of r) t.able c.requires.new.0 c.requires.new.1 c.requires.within;
     }
